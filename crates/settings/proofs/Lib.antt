@@ -1,0 +1,3 @@
+mod WordLaws
+mod LensLaws
+mod MarkLaws
