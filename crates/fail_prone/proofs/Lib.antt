@@ -1,0 +1,3 @@
+pub mod Loops
+pub mod Listed
+pub mod Accepted

@@ -1,0 +1,3 @@
+// Quorum systems of groups of replicas.
+mod group_test;
+pub mod nested;

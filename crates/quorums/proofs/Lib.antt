@@ -1,0 +1,3 @@
+pub mod Intersections
+pub mod Weights
+pub mod Thresholds

@@ -1,0 +1,4 @@
+// Quorum systems.
+pub mod quorum_system;
+pub mod refusal;
+pub mod threshold;

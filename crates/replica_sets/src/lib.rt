@@ -1,0 +1,3 @@
+// Sets of replicas.
+mod masks;
+pub mod replica_set;
