@@ -1,0 +1,4 @@
+pub mod Books
+pub mod Orders
+pub mod Ledgers
+pub mod InlineSigners
