@@ -1,0 +1,4 @@
+pub mod Versions
+pub mod Messages
+pub mod Replicas
+pub mod Clients
