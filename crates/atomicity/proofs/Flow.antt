@@ -20,7 +20,7 @@ use Rattle.quorums.proofs.Intersections.{correct-quorum, some-correct}
 use Rattle.protocol.specs.declared.client.Phase.{Phase}
 use Rattle.protocol.specs.declared.client.Phase.the-variants.{Idle, Querying, Storing}
 use Rattle.atomicity.specs.Marks.{Mark, Traffic, Summary, look, at, at-traffic, begins, finishes, reads, writes, turns, requests, replies}
-use Rattle.atomicity.specs.Marks.Traffic.{Requests}
+use Rattle.atomicity.specs.Marks.Traffic.{ToReplica}
 use Rattle.atomicity.specs.Claims.{Origin, walk, moved, Returned, Served, Progresses}
 use Rattle.atomicity.specs.Claims.Origin.{SentAt, AnswerBy}
 use Rattle.atomicity.proofs.Facts.{nth, some-inj, none≢some, idle≢querying, idle≢storing, querying≢storing}
@@ -175,7 +175,7 @@ module _ {S M : Type 0} (about : M → Note) (q : Quorums) (faulty : ℕ) where
     pub told : (c : ℕ) → Busy (A c) → (b : ℕ) → Returned tr (A c .since) b → has (A c .heard) b ≡ true
     pub known : (i b : ℕ) → Returned tr i b → i < length tr
     pub short : (c : ℕ) → Busy (A c) → (q .quorum (A c .heard) ≡ false) × Below (q .size) (A c .heard)
-    pub prompt : (j k b : ℕ) → at-traffic requests tr j ≡ Some (k, b) → has faulty b ≡ false → look (λ e. Some (e .traffic)) tr j ≡ Some (Requests k b true)
+    pub prompt : (j k b : ℕ) → at-traffic requests tr j ≡ Some (k, b) → has faulty b ≡ false → look (λ e. Some (e .traffic)) tr j ≡ Some (ToReplica k b true)
 
   module _ (laws : QuorumLaws q) where
     module _ (tr : List (Summary S)) (A A′ : ℕ → Stage) (ms : List M) (h : Flow tr A ms) (e : Summary S) where
@@ -214,8 +214,8 @@ module _ {S M : Type 0} (about : M → Note) (q : Quorums) (faulty : ℕ) where
       link-by f (AnswerBy b (SentAt i)) m p = (p .0, f i m (p .1))
       link-by f (AnswerBy b (AnswerBy d o)) m p = p
 
-      prompt-more : ((k b : ℕ) → requests (e .traffic) ≡ Some (k, b) → has faulty b ≡ false → e .traffic ≡ Requests k b true)
-          → (j k b : ℕ) → at-traffic requests (then-event tr e) j ≡ Some (k, b) → has faulty b ≡ false → look (λ x. Some (x .traffic)) (then-event tr e) j ≡ Some (Requests k b true)
+      prompt-more : ((k b : ℕ) → requests (e .traffic) ≡ Some (k, b) → has faulty b ≡ false → e .traffic ≡ ToReplica k b true)
+          → (j k b : ℕ) → at-traffic requests (then-event tr e) j ≡ Some (k, b) → has faulty b ≡ false → look (λ x. Some (x .traffic)) (then-event tr e) j ≡ Some (ToReplica k b true)
       prompt-more f j k b r g = ⊎-elim
           (λ old. at-keep (λ x. Some (x .traffic)) tr e j (h .prompt j k b old g))
           (λ new. ap (look (λ x. Some (x .traffic)) (then-event tr e)) (new .0) ∙ at-new (λ x. Some (x .traffic)) tr e ∙ ap (λ i. Some i) (f k b (new .1) g))
@@ -228,7 +228,7 @@ module _ {S M : Type 0} (about : M → Note) (q : Quorums) (faulty : ℕ) where
           → ((c : ℕ) → Busy (A c) → (b : ℕ) → has (A c .heard) b ≡ true → has (A′ c .heard) b ≡ true)
           → ((c b k : ℕ) → Busy (A c) → replies (e .traffic) ≡ Some k → nth (flow tr) k ≡ Some (AnswerBy b (SentAt (A c .since))) → has (A′ c .heard) b ≡ true)
           → ((c : ℕ) → Busy (A c) → (q .quorum (A′ c .heard) ≡ false) × Below (q .size) (A′ c .heard))
-          → ((k b : ℕ) → requests (e .traffic) ≡ Some (k, b) → has faulty b ≡ false → e .traffic ≡ Requests k b true)
+          → ((k b : ℕ) → requests (e .traffic) ≡ Some (k, b) → has faulty b ≡ false → e .traffic ≡ ToReplica k b true)
           → Flow (then-event tr e) A′ ms′
       flow-plain ms′ nr nw nt s l grow new sh pr = record {
         links = subst (λ f. Beside (Link (then-event tr e) A′) f ms′) (sym (flow-then tr e)) (l (beside-map (Link tr A) (Link (then-event tr e) A′) (link-by (mine-same s)) (flow tr) ms (h .links)));
@@ -272,7 +272,7 @@ module _ {S M : Type 0} (about : M → Note) (q : Quorums) (faulty : ℕ) where
           → ((d : ℕ) → turns (e .mark) ≡ Some d → (d ≡ c) × (A′ c .phase ≡ Storing))
           → ((v : S) → writes (e .mark) ≡ Some v → (0 ≡ c) × (A′ c .phase ≡ Storing))
           → ((d b k : ℕ) → (d ≡ c → ⊥) → Busy (A d) → replies (e .traffic) ≡ Some k → nth (flow tr) k ≡ Some (AnswerBy b (SentAt (A d .since))) → ⊥)
-          → ((k b : ℕ) → requests (e .traffic) ≡ Some (k, b) → has faulty b ≡ false → e .traffic ≡ Requests k b true)
+          → ((k b : ℕ) → requests (e .traffic) ≡ Some (k, b) → has faulty b ≡ false → e .traffic ≡ ToReplica k b true)
           → Flow (then-event tr e) A′ (ms ++ (m ∷ []))
       flow-start c m sc other now zero-heard ms-None ms-c ms-o ms-k mv nq ns newq newt neww strange pr = record {
         links = subst (λ f. Beside (Link (then-event tr e) A′) f (ms ++ (m ∷ []))) (sym (flow-then tr e ∙ mv))
@@ -327,7 +327,7 @@ module _ {S M : Type 0} (about : M → Note) (q : Quorums) (faulty : ℕ) where
           → ((d : ℕ) → (d ≡ c → ⊥) → A′ d ≡ A d) → A′ c .phase ≡ Idle → A c .phase ≡ Storing
           → moved (length tr) (e .traffic) (flow tr) ≡ flow tr
           → ((d b k : ℕ) → (d ≡ c → ⊥) → Busy (A d) → replies (e .traffic) ≡ Some k → nth (flow tr) k ≡ Some (AnswerBy b (SentAt (A d .since))) → ⊥)
-          → ((k b : ℕ) → requests (e .traffic) ≡ Some (k, b) → has faulty b ≡ false → e .traffic ≡ Requests k b true)
+          → ((k b : ℕ) → requests (e .traffic) ≡ Some (k, b) → has faulty b ≡ false → e .traffic ≡ ToReplica k b true)
           → Flow (then-event tr e) A′ ms
       flow-end c fc nr nw nt other idle st mv strange pr = record {
         links = subst (λ f. Beside (Link (then-event tr e) A′) f ms) (sym (flow-then tr e ∙ mv))

@@ -15,7 +15,7 @@ use Rattle.cluster.specs.State.{State}
 use Rattle.cluster.specs.Steps.{no-message}
 use Rattle.atomicity.specs.declared.call.Call.{Call}
 use Rattle.atomicity.specs.declared.answer.Answer.the-variants.{Replied}
-use Rattle.atomicity.specs.Marks.Traffic.{Still, Sends, Replies}
+use Rattle.atomicity.specs.Marks.Traffic.{Still, Sends, ToClient}
 use Rattle.atomicity.specs.Summaries.{came-to, reply-mark, held, sends}
 use Rattle.atomicity.proofs.Facts.{nth, nth-is}
 use Rattle.atomicity.proofs.Moves.{Handed}
@@ -35,7 +35,7 @@ module _ {S : Type 0} (k : Kind S) (s s′ : State) (call : Call S) (m : Message
 
   -- and of the messages in flight: this one is delivered, or none
   pub handed-traffic : Handed k s call m → (r : Reply)
-      → ((i : ℕ) × (nth (s .messages) i ≡ Some m) × (came-to k s s′ call (Ok (Replied r)) .traffic ≡ Replies i (sends r)))
+      → ((i : ℕ) × (nth (s .messages) i ≡ Some m) × (came-to k s s′ call (Ok (Replied r)) .traffic ≡ ToClient i (sends r)))
       ⊎ (came-to k s s′ call (Ok (Replied r)) .traffic ≡ cond (sends r) Sends Still)
   handed-traffic (inl (i, e, n)) r = inl (i, n, ap (λ z. came-to k s s′ z (Ok (Replied r)) .traffic) e)
   handed-traffic (inr (m′, e, y, g)) r = inr (ap (λ z. came-to k s s′ z (Ok (Replied r)) .traffic) e)

@@ -15,7 +15,7 @@ use Rattle.signatures.specs.Books.{can-sign}
 use Rattle.cluster.specs.Steps.{unless, hear, write-step, read-step, request-step, reply-step, collect-step}
 use Rattle.atomicity.specs.Marks.{Summary, look, at, finishes, reads, writes, turns, gives}
 use Rattle.atomicity.specs.Marks.Mark.{Nothing, Begins, Turns, Finishes, Collects}
-use Rattle.atomicity.specs.Marks.Traffic.{Still, Sends, Requests, Replies}
+use Rattle.atomicity.specs.Marks.Traffic.{Still, Sends, ToReplica, ToClient}
 use Rattle.atomicity.specs.Claims.{Ends, WriteBegun, ReadFinished, Legal, Linearizes, In, Before, Served}
 use Rattle.atomicity.specs.Summaries.{summed}
 use Rattle.atomicity.specs.Examples.{gave, stale, new-then-old, stuck, overlap, Telling}
@@ -117,10 +117,10 @@ served (suc r) l g = absurd (omega arith)
 
 abbrev computed : List (Summary ℕ)
 computed =
-    summed (Begins 1 None) Sends ∷ summed (Begins 0 (Some 5)) Sends ∷ summed Nothing (Requests 1 0 true) ∷ summed Nothing (Requests 0 0 true)
-    ∷ summed (Turns 1) (Replies 3 true) ∷ summed Nothing (Requests 4 0 true)
-    ∷ summed (Finishes 1 (Some (record { reader = 1; op = 1; timestamp = 1; setting = 5 }))) (Replies 5 false)
-    ∷ summed (Finishes 0 None) (Replies 2 false)
+    summed (Begins 1 None) Sends ∷ summed (Begins 0 (Some 5)) Sends ∷ summed Nothing (ToReplica 1 0 true) ∷ summed Nothing (ToReplica 0 0 true)
+    ∷ summed (Turns 1) (ToClient 3 true) ∷ summed Nothing (ToReplica 4 0 true)
+    ∷ summed (Finishes 1 (Some (record { reader = 1; op = 1; timestamp = 1; setting = 5 }))) (ToClient 5 false)
+    ∷ summed (Finishes 0 None) (ToClient 2 false)
     ∷ summed (Collects 1 (record { reader = 1; op = 1; timestamp = 1; setting = 5 })) Still ∷ []
 
 computes : overlap ≡ computed

@@ -48,7 +48,7 @@ use Rattle.atomicity.proofs.Protocol as protocol
 use Rattle.atomicity.proofs.Protocol.{Party, Invariant, also}
 use Rattle.atomicity.proofs.Moves.{seen, row, hears, better, put, put-send, after-answer, without, finished, genuine-row, Coded, again, Handed, Cases, move}
 use Rattle.atomicity.proofs.Book.{genuine-grow, genuine-new, genuine-cases, newest-new}
-use Rattle.atomicity.proofs.Tables.{seen-put, seen-sent, seen-finished, seen-asking, seen-writing, seen-collected, seen-reader, writer-kept, done-with, row-put, party, stored, parties, stored-writer, stored-reader, parties-put}
+use Rattle.atomicity.proofs.Tables.{seen-put, seen-sent, seen-finished, seen-querying, seen-writing, seen-collected, seen-reader, writer-kept, done-with, row-put, party, stored, parties, stored-writer, stored-reader, parties-put}
 use Rattle.atomicity.proofs.Handing.{handed-mark}
 
 -- the client's operation is open
@@ -327,7 +327,7 @@ module _ {S : Type 0} (k : Kind S) where
         e = came-to k s s′ (Read c) (Ok (ReadBegun (reader-at (s .readers) c .client .op + 1)))
 
         puts : (d : ℕ) → seen s′ d ≡ changed (seen s) c y d
-        puts = seen-asking k s c nz cl
+        puts = seen-querying k s c nz cl
 
         other : (d : ℕ) → (d ≡ c → ⊥) → seen s′ d ≡ seen s d
         other d n = puts d ∙ changed-other (seen s) c y d n

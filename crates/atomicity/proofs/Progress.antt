@@ -37,7 +37,7 @@ use Rattle.atomicity.specs.declared.answer.Answer.{Answer}
 use Rattle.atomicity.specs.declared.answer.Answer.the-variants.{Written, ReadBegun, Delivered, Replied, Dropped, Collected}
 use Rattle.atomicity.specs.Runs.{step}
 use Rattle.atomicity.specs.Marks.{Mark, Traffic, Summary, finishes, reads, writes, turns, requests, replies}
-use Rattle.atomicity.specs.Marks.Traffic.{Requests}
+use Rattle.atomicity.specs.Marks.Traffic.{ToReplica}
 use Rattle.atomicity.specs.Claims.{Origin, moved, and-also}
 use Rattle.atomicity.specs.Claims.Origin.{SentAt, AnswerBy}
 use Rattle.atomicity.specs.Summaries.{came-to, sends, held}
@@ -46,7 +46,7 @@ use Rattle.atomicity.proofs.Growing.{with-old, with-new, with-below}
 use Rattle.atomicity.proofs.Trace.{Done, of, then-event, at-new}
 use Rattle.atomicity.proofs.Order.{Item}
 use Rattle.atomicity.proofs.Moves.{seen, row, hears, better, put, put-send, after-answer, without, finished, genuine-row, counts, Handed, Mute, Cases, move}
-use Rattle.atomicity.proofs.Tables.{seen-put, seen-sent, seen-finished, seen-asking, seen-writing, seen-collected, seen-reader}
+use Rattle.atomicity.proofs.Tables.{seen-put, seen-sent, seen-finished, seen-querying, seen-writing, seen-collected, seen-reader}
 use Rattle.atomicity.proofs.Handing.{handed-mark, handed-traffic}
 use Rattle.atomicity.proofs.Operations.{Linear, flights, coded-rows}
 use Rattle.atomicity.proofs.Flow.{Flow, Stage, Note, Busy, Beside, Link, Mine, flow, starts, beside-message, beside-snoc, beside-removed, flow-plain, flow-start, flow-end, stranger}
@@ -88,7 +88,7 @@ module _ {S : Type 0} (k : Kind S) where
         → reads (e .mark) ≡ None → writes (e .mark) ≡ None → turns (e .mark) ≡ None
         → (Beside (Link about system faulty (then-event tr e) (stage s st)) (flow tr) (s .messages) → Beside (Link about system faulty (then-event tr e) (stage s st)) (moved (length tr) (e .traffic) (flow tr)) (s′ .messages))
         → replies (e .traffic) ≡ None
-        → ((n r : ℕ) → requests (e .traffic) ≡ Some (n, r) → has faulty r ≡ false → e .traffic ≡ Requests n r true)
+        → ((n r : ℕ) → requests (e .traffic) ≡ Some (n, r) → has faulty r ≡ false → e .traffic ≡ ToReplica n r true)
         → Flows system faulty (then-event tr e) s′
     calm e s′ ew er nr nw nt l nrep pr = (
       st,
@@ -112,7 +112,7 @@ module _ {S : Type 0} (k : Kind S) where
     add-answer : (t : List (Summary S)) (A : ℕ → Stage) (i r : ℕ) (m m′ : Message Bytes) → about m .from ≡ None → about m′ .from ≡ Some r
         → ((j : ℕ) → Mine about system faulty t A j m → Mine about system faulty t A j m′)
         → nth (s .messages) i ≡ Some m → Beside (Link about system faulty t A) (flow tr) (s .messages)
-        → Beside (Link about system faulty t A) (moved (length tr) (Requests i r true) (flow tr)) (s .messages ++ (m′ ∷ []))
+        → Beside (Link about system faulty t A) (moved (length tr) (ToReplica i r true) (flow tr)) (s .messages ++ (m′ ∷ []))
     add-answer t A i r m m′ sm sm′ f e p = let q = beside-message (Link about system faulty t A) (flow tr) (s .messages) p i e in
         subst (λ z. Beside (Link about system faulty t A) (and-also (flow tr) (mapped (AnswerBy r) z)) (s .messages ++ (m′ ∷ []))) (sym (q .1)) (go (q .0) (q .2))
       where
@@ -125,13 +125,13 @@ module _ {S : Type 0} (k : Kind S) where
         → P (DeliverRequest i r) (Ok (Delivered Answered)) (after-answer s r (row s r) (Value r c o (row s r)))
     tells i r c o e lt t = calm _ (after-answer s r (row s r) (Value r c o (row s r))) refl refl refl refl refl
         (add-answer _ (stage s st) i r (Query c o) (Value r c o (row s r)) refl refl (λ j z. z) e) refl
-        (λ j d y u. let z = some-inj y in ap (λ a. Requests (a .0) (a .1) true) z)
+        (λ j d y u. let z = some-inj y in ap (λ a. ToReplica (a .0) (a .1) true) z)
 
     keeps : (i r c o : ℕ) (v : Version Bytes) → nth (s .messages) i ≡ Some (Store c o v) → r < system .size → has faulty r ≡ false → genuine-row k (s .book) v ≡ true
         → P (DeliverRequest i r) (Ok (Delivered Answered)) (after-answer s r (newer (row s r) v) (Ack r c o))
     keeps i r c o v e lt t x = calm _ (after-answer s r (newer (row s r) v) (Ack r c o)) refl refl refl refl refl
         (add-answer _ (stage s st) i r (Store c o v) (Ack r c o) refl refl (λ j z. z) e) refl
-        (λ j d y u. let z = some-inj y in ap (λ a. Requests (a .0) (a .1) true) z)
+        (λ j d y u. let z = some-inj y in ap (λ a. ToReplica (a .0) (a .1) true) z)
 
     drops : (i : ℕ) → i < length (s .messages) → P (DropMessage i) (Ok Dropped) (without s i)
     drops i lt = calm _ (without s i) refl refl refl refl refl (λ p. beside-removed _ (flow tr) (s .messages) p i) refl (λ j b r. absurd (none≢some r))
@@ -351,7 +351,7 @@ module _ {S : Type 0} (k : Kind S) where
         e = came-to k s s′ (Read c) (Ok (ReadBegun (reader-at (s .readers) c .client .op + 1)))
 
         puts : (d : ℕ) → seen s′ d ≡ changed (seen s) c x d
-        puts = seen-asking k s c nz cl
+        puts = seen-querying k s c nz cl
 
         own : seen s′ c ≡ x
         own = puts c ∙ changed-same (seen s) c x

@@ -85,7 +85,7 @@ module _ (q : Quorums) (laws : QuorumLaws q) (faulty : ℕ) (fault : q .fault fa
   pub record Party-ok (G : Version V → Type 0) (D : Done → Type 0) (R : ℕ → Version V) (now : ℕ) (x : Party V) : Type 0 where
     pub best-ok : (x .phase ≡ Idle → ⊥) → G (x .best)
     pub past : (x .phase ≡ Idle → ⊥) → x .began < now
-    pub asking : x .phase ≡ Querying → (d : Done) → D d → d .end < x .began → (b : ℕ) → Good b
+    pub querying : x .phase ≡ Querying → (d : Done) → D d → d .end < x .began → (b : ℕ) → Good b
         → has (x .heard) b ≡ true → has (d .set) b ≡ true → d .stamp ≤ x .best .timestamp
     pub storing : x .phase ≡ Storing → (d : Done) → D d → d .end < x .began → d .stamp ≤ x .best .timestamp
     pub stored : x .phase ≡ Storing → (b : ℕ) → Good b → has (x .heard) b ≡ true → x .best .timestamp ≤ R b .timestamp
@@ -131,7 +131,7 @@ module _ (q : Quorums) (laws : QuorumLaws q) (faulty : ℕ) (fault : q .fault fa
       (h : Invariant G top now C R M D) where
     party-later : (c : ℕ) → Party-ok G D R (suc now) (C c)
     party-later c = let k = h .party-ok c in
-        record { best-ok = k .best-ok; past = λ n. let p = k .past n in omega arith; asking = k .asking; storing = k .storing; stored = k .stored }
+        record { best-ok = k .best-ok; past = λ n. let p = k .past n in omega arith; querying = k .querying; storing = k .storing; stored = k .stored }
 
     done-later : (d : Done) → D d → Done-ok R top (suc now) d
     done-later d m = let k = h .done-ok d m in
@@ -172,7 +172,7 @@ module _ (q : Quorums) (laws : QuorumLaws q) (faulty : ℕ) (fault : q .fault fa
       message-ok = λ m. ⊎-elim (λ p. local-more G G R R′ D D (C (client-of m)) (λ _ z. z) grows (λ _ _ z _. z) m (h .message-ok m p))
           (λ e. subst (λ z. Local G R′ D (C (client-of z)) z) (sym e) new);
       party-ok = λ c′. let k = party-later c′ in
-          record { best-ok = k .best-ok; past = k .past; asking = k .asking; storing = k .storing; stored = λ p r i m. let u = k .stored p r i m in let w = grows r in omega arith };
+          record { best-ok = k .best-ok; past = k .past; querying = k .querying; storing = k .storing; stored = λ p r i m. let u = k .stored p r i m in let w = grows r in omega arith };
       done-ok = λ d m. let k = done-later d m in
           record { over = k .over; below = k .below; enough = k .enough; kept = λ r i m′. let u = k .kept r i m′ in let w = grows r in omega arith };
     }
@@ -223,7 +223,7 @@ module _ (q : Quorums) (laws : QuorumLaws q) (faulty : ℕ) (fault : q .fault fa
         own = record {
           best-ok = λ _. h .genuine-bottom;
           past = λ _. omega arith;
-          asking = λ _ d m t b g i. absurd (false≢true (sym (has-none b) ∙ i));
+          querying = λ _ d m t b g i. absurd (false≢true (sym (has-none b) ∙ i));
           storing = λ e. absurd (querying≢storing e);
           stored = λ e. absurd (querying≢storing e);
         }
@@ -242,7 +242,7 @@ module _ (q : Quorums) (laws : QuorumLaws q) (faulty : ℕ) (fault : q .fault fa
           (λ e. local-new G′ R D (C 0) x (omega arith) m (subst (λ i. Local G′ R D (C i) m) e (old m p))) (λ _. old m p))
           (λ e. subst (λ z. Local G′ R D (changed C 0 x (client-of z)) z) (sym e) new);
       party-ok = λ c′. changed-way (λ z. Party-ok G′ D R (suc now) z) C 0 x c′ (λ _. own) (λ _. let k = party-later c′ in
-          record { best-ok = λ n. f _ (k .best-ok n); past = k .past; asking = k .asking; storing = k .storing; stored = k .stored });
+          record { best-ok = λ n. f _ (k .best-ok n); past = k .past; querying = k .querying; storing = k .storing; stored = k .stored });
       done-ok = λ d m. let k = done-later d m in
           record { over = k .over; below = let p = k .below in omega arith; enough = k .enough; kept = k .kept };
     }
@@ -260,7 +260,7 @@ module _ (q : Quorums) (laws : QuorumLaws q) (faulty : ℕ) (fault : q .fault fa
         own = record {
           best-ok = λ _. gv;
           past = λ _. omega arith;
-          asking = λ e. absurd (storing≢querying e);
+          querying = λ e. absurd (storing≢querying e);
           storing = λ _ d m _. let k = h .done-ok d m .below in omega arith;
           stored = λ _ b g i. absurd (false≢true (sym (has-none b) ∙ i));
         }
@@ -293,7 +293,7 @@ module _ (q : Quorums) (laws : QuorumLaws q) (faulty : ℕ) (fault : q .fault fa
           (λ p. let k = h .message-ok (Value b c (C c .op) v) p .2 refl asks d m t (subst (λ z. has (d .set) z ≡ true) e j) in let u = best′-new in omega arith)
           (λ bad. absurd (false≢true (sym g ∙ ap (λ z. has faulty z) e ∙ bad)))
           from)
-          (λ old. let k = h .party-ok c .asking asks d m t r g old j in let u = best′-old in omega arith)
+          (λ old. let k = h .party-ok c .querying asks d m t r g old j in let u = best′-old in omega arith)
           (with-cases (C c .heard) b r i)
 
       hear-x : Party V
@@ -321,7 +321,7 @@ module _ (q : Quorums) (laws : QuorumLaws q) (faulty : ℕ) (fault : q .fault fa
           own = let k = party-later c in record {
             best-ok = λ _. best′-gen;
             past = k .past;
-            asking = λ _. asked′;
+            querying = λ _. asked′;
             storing = λ e. absurd (querying≢storing (sym asks ∙ e));
             stored = λ e. absurd (querying≢storing (sym asks ∙ e));
           }
@@ -357,7 +357,7 @@ module _ (q : Quorums) (laws : QuorumLaws q) (faulty : ℕ) (fault : q .fault fa
           own = let k = party-later c in record {
             best-ok = λ _. best′-gen;
             past = λ _. k .past (λ e. idle≢querying (sym e ∙ asks));
-            asking = λ e. absurd (storing≢querying e);
+            querying = λ e. absurd (storing≢querying e);
             storing = λ _ d m t.
                 let w = common-correct q laws heard′ (d .set) faulty enough (h .done-ok d m .enough) fault in
                 asked′ d m t (w .0) (w .4) (w .2) (w .3);
@@ -401,7 +401,7 @@ module _ (q : Quorums) (laws : QuorumLaws q) (faulty : ℕ) (fault : q .fault fa
           own = let k = party-later c in record {
             best-ok = k .best-ok;
             past = k .past;
-            asking = λ e. absurd (storing≢querying (sym stores ∙ e));
+            querying = λ e. absurd (storing≢querying (sym stores ∙ e));
             storing = k .storing;
             stored = λ _. acked;
           }
@@ -445,7 +445,7 @@ module _ (q : Quorums) (laws : QuorumLaws q) (faulty : ℕ) (fault : q .fault fa
           own = record {
             best-ok = λ _. h .genuine-bottom;
             past = λ n. absurd (n refl);
-            asking = λ e. absurd (idle≢querying e);
+            querying = λ e. absurd (idle≢querying e);
             storing = λ e. absurd (idle≢storing e);
             stored = λ e. absurd (idle≢storing e);
           }
@@ -454,7 +454,7 @@ module _ (q : Quorums) (laws : QuorumLaws q) (faulty : ℕ) (fault : q .fault fa
           still c′ = let k = party-later c′ in record {
             best-ok = k .best-ok;
             past = k .past;
-            asking = λ q d m t. k .asking q d (early c′ (λ e. idle≢querying (sym e ∙ q)) d m t) t;
+            querying = λ q d m t. k .querying q d (early c′ (λ e. idle≢querying (sym e ∙ q)) d m t) t;
             storing = λ q d m t. k .storing q d (early c′ (λ e. idle≢storing (sym e ∙ q)) d m t) t;
             stored = k .stored;
           }

@@ -85,9 +85,9 @@ module _ {S : Type 0} (k : Kind S) where
   pub seen-finished : (s : State) (c : ℕ) → c ≤ length (s .readers) → (d : ℕ) → seen (finished k s c) d ≡ changed (seen s) c (fresh-client k (seen s c .op)) d
   seen-finished s c = seen-client s c (fresh-client k (seen s c .op)) (Some (completed-of (seen s c))) (s .messages) (s .lines ++ (end-line c (seen s c) ∷ []))
 
-  pub seen-asking : (s : State) (c : ℕ) → (c ≡ 0 → ⊥) → c ≤ length (s .readers)
+  pub seen-querying : (s : State) (c : ℕ) → (c ≡ 0 → ⊥) → c ≤ length (s .readers)
       → (d : ℕ) → seen (read-begun k s c) d ≡ changed (seen s) c (begin-query k (reader-at (s .readers) c .client .op + 1)) d
-  seen-asking s c n l = let y = begin-query k (reader-at (s .readers) c .client .op + 1) in
+  seen-querying s c n l = let y = begin-query k (reader-at (s .readers) c .client .op + 1) in
       seen-with (s .writer) (s .writer) (s .readers) c (record { client = y; completed = reader-at (s .readers) c .completed }) y l refl (λ z. absurd (n z)) (λ _. refl)
 
   pub seen-writing : (s : State) (b : Bytes) (g d : ℕ) → seen (write-begun k s b g) d ≡ changed (seen s) 0 (begin-store k (s .writer .op + 1)) d

@@ -183,7 +183,7 @@ module _ {S : Type 0} (k : Kind S) (laws : KindLaws k) where
             party-ok = λ c. record {
               best-ok = λ n. absurd (n (idle c));
               past = λ n. absurd (n (idle c));
-              asking = λ z. absurd (idle≢querying (sym (idle c) ∙ z));
+              querying = λ z. absurd (idle≢querying (sym (idle c) ∙ z));
               storing = λ z. absurd (idle≢storing (sym (idle c) ∙ z));
               stored = λ z. absurd (idle≢storing (sym (idle c) ∙ z));
             };

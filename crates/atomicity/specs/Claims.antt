@@ -12,7 +12,7 @@ use Rattle.std.specs.declared.option.Option.the-variants.{Some, None}
 use Rattle.replica_sets.specs.Sets.{has}
 use Rattle.cluster.specs.declared.completed_read.CompletedRead.{CompletedRead}
 use Rattle.atomicity.specs.Marks.{Mark, Traffic, Summary, look, begins, writes, reads, turns, finishes, gives, collects, collector, requests, replies, at, at-traffic}
-use Rattle.atomicity.specs.Marks.Traffic.{Still, Sends, Requests, Replies, Drops}
+use Rattle.atomicity.specs.Marks.Traffic.{Still, Sends, ToReplica, ToClient, Drops}
 
 -- ---- linearizability
 
@@ -81,8 +81,8 @@ and-also os (Some o) = os ++ (o ∷ [])
 abbrev pub moved : ℕ → Traffic → List Origin → List Origin
 moved i Still os = os
 moved i Sends os = os ++ (SentAt i ∷ [])
-moved i (Requests n r answered) os = cond answered (and-also os (mapped (AnswerBy r) (look (λ o. Some o) os n))) os
-moved i (Replies n sent) os = cond sent (os ++ (SentAt i ∷ [])) os
+moved i (ToReplica n r answered) os = cond answered (and-also os (mapped (AnswerBy r) (look (λ o. Some o) os n))) os
+moved i (ToClient n sent) os = cond sent (os ++ (SentAt i ∷ [])) os
 moved i (Drops n) os = removed os n
 
 module _ {S : Type 0} where
@@ -123,7 +123,7 @@ module _ {S : Type 0} where
         pub write-ends : (i : ℕ) → WriteBegun run i → Served i → Later finishes i 0
         -- a correct replica that a phase's message is delivered to answers it
         pub answers : (i j n r : ℕ) → at-traffic requests run j ≡ Some (n, r) → origin j n ≡ Some (SentAt i) → has faulty r ≡ false
-            → look (λ e. Some (e .traffic)) run j ≡ Some (Requests n r true)
+            → look (λ e. Some (e .traffic)) run j ≡ Some (ToReplica n r true)
 
 -- ---- what a reader is handed
 

@@ -15,7 +15,7 @@ use Rattle.atomicity.specs.declared.call.Call.the-variants.{Write, Read, Deliv
 use Rattle.atomicity.specs.Runs.{trace}
 use Rattle.atomicity.specs.Marks.{Summary}
 use Rattle.atomicity.specs.Marks.Mark.{Nothing, Begins, Finishes, Collects}
-use Rattle.atomicity.specs.Marks.Traffic.{Still, Sends, Requests, Replies}
+use Rattle.atomicity.specs.Marks.Traffic.{Still, Sends, ToReplica, ToClient}
 use Rattle.atomicity.specs.Claims.{Linearizes, Progresses, HandsOut}
 use Rattle.atomicity.specs.Summaries.{summed, summary}
 
@@ -38,11 +38,11 @@ new-then-old =
 
 -- the only replica is asked and answers, its answer is delivered, and the query has not ended
 abbrev pub stuck : List (Summary ℕ)
-stuck = summed (Begins 1 None) Sends ∷ summed Nothing (Requests 0 0 true) ∷ summed Nothing (Replies 1 false) ∷ []
+stuck = summed (Begins 1 None) Sends ∷ summed Nothing (ToReplica 0 0 true) ∷ summed Nothing (ToClient 1 false) ∷ []
 
 -- the only replica is asked and doesn't answer
 abbrev pub mute : List (Summary ℕ)
-mute = summed (Begins 1 None) Sends ∷ summed Nothing (Requests 0 0 false) ∷ []
+mute = summed (Begins 1 None) Sends ∷ summed Nothing (ToReplica 0 0 false) ∷ []
 
 -- a read gives 5, and the reader is handed 7
 abbrev pub swapped : List (Summary ℕ)

@@ -27,9 +27,9 @@ pub data Traffic : Type 0 where
   -- a client sends a message
   Sends : Traffic
   -- the message is delivered to the replica, which answers or doesn't
-  Requests : ℕ → ℕ → Bool → Traffic
+  ToReplica : ℕ → ℕ → Bool → Traffic
   -- the message is delivered to its client, which sends one or doesn't
-  Replies : ℕ → Bool → Traffic
+  ToClient : ℕ → Bool → Traffic
   -- the message is lost
   Drops : ℕ → Traffic
 
@@ -50,16 +50,16 @@ look f (e ∷ es) (suc i) = look f es i
 abbrev pub requests : Traffic → Option (ℕ × ℕ)
 requests Still = None
 requests Sends = None
-requests (Requests n r answered) = Some (n, r)
-requests (Replies n sent) = None
+requests (ToReplica n r answered) = Some (n, r)
+requests (ToClient n sent) = None
 requests (Drops n) = None
 
 -- which message is delivered to its client
 abbrev pub replies : Traffic → Option ℕ
 replies Still = None
 replies Sends = None
-replies (Requests n r answered) = None
-replies (Replies n sent) = Some n
+replies (ToReplica n r answered) = None
+replies (ToClient n sent) = Some n
 replies (Drops n) = None
 
 module _ {S : Type 0} where

@@ -30,7 +30,7 @@ use Rattle.atomicity.specs.declared.answer.Answer.the-variants.{Written, ReadB
 use Rattle.atomicity.specs.Runs.{Event, trace}
 use Rattle.atomicity.specs.Marks.{Mark, Traffic, Summary}
 use Rattle.atomicity.specs.Marks.Mark.{Nothing, Begins, Turns, Finishes, Collects}
-use Rattle.atomicity.specs.Marks.Traffic.{Still, Sends, Requests, Replies, Drops}
+use Rattle.atomicity.specs.Marks.Traffic.{Still, Sends, ToReplica, ToClient, Drops}
 use Rattle.atomicity.specs.Claims.{Sound}
 
 -- whether the client sends a message on a reply
@@ -89,9 +89,9 @@ module _ {S : Type 0} where
     abbrev pub accepted : State → State → Call S → Answer S → Summary S
     accepted s s′ (Write v) a = summed (Begins 0 (Some v)) Sends
     accepted s s′ (Read c) a = summed (Begins c None) Sends
-    accepted s s′ (DeliverRequest i r) a = summed Nothing (Requests i r (is-answered a))
+    accepted s s′ (DeliverRequest i r) a = summed Nothing (ToReplica i r (is-answered a))
     accepted s s′ (DeliverReply i) a =
-        let c = client-of (message-at s i) in summed (reply-mark c (held s′ c) (reply-of a)) (Replies i (sends (reply-of a)))
+        let c = client-of (message-at s i) in summed (reply-mark c (held s′ c) (reply-of a)) (ToClient i (sends (reply-of a)))
     accepted s s′ (ForgeReply m) a = summed (reply-mark (client-of m) (held s′ (client-of m)) (reply-of a)) (cond (sends (reply-of a)) Sends Still)
     accepted s s′ (DropMessage i) a = summed Nothing (Drops i)
     accepted s s′ (Collect c) a = summed (collected-mark c a) Still

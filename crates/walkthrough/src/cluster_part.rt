@@ -161,7 +161,7 @@ impl Store {
     }
 }
 
-pub fn walk(rt: &impl Print) -> Result<(), AnyError> {
+pub(crate) fn walk(rt: &impl Print) -> Result<(), AnyError> {
     println!(rt, "-- a write; replica 2 is silent, and replica 3 lies")?;
     let Some(mark) = ShelfMark::from_text(b"P.Oxy.4443") else {
         return Err("the shelf mark is no mark".into());

@@ -170,7 +170,7 @@ fn calls_of(heap: Global) -> Result<Vec<Call<ShelfMark>>, AnyError> {
     Ok(calls)
 }
 
-pub fn walk(rt: &impl Print, heap: Global) -> Result<(), AnyError> {
+pub(crate) fn walk(rt: &impl Print, heap: Global) -> Result<(), AnyError> {
     println!(rt, "-- a crossing; replica 2 lags, and replica 3 forges")?;
     let calls = calls_of(heap)?;
     let mut replicas = [Version {

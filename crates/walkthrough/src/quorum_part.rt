@@ -36,7 +36,7 @@ fn describe<P: QuorumSystem>(
     Ok(())
 }
 
-pub fn walk(rt: &impl Print) -> Result<(), AnyError> {
+pub(crate) fn walk(rt: &impl Print) -> Result<(), AnyError> {
     println!(rt, "-- quorum systems")?;
     let refused = number_of(Threshold::check(3, 1));
     println!(rt, "3 replicas, 1 faulty: refused with {refused}")?;

@@ -74,7 +74,7 @@ fn walk_mark(rt: &impl Print) -> Result<(), AnyError> {
     Ok(())
 }
 
-pub fn walk(rt: &impl Print) -> Result<(), AnyError> {
+pub(crate) fn walk(rt: &impl Print) -> Result<(), AnyError> {
     println!(rt, "-- settings and their bytes")?;
     walk_lens(rt)?;
     walk_mark(rt)

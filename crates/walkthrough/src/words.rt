@@ -3,7 +3,7 @@ use cluster::delivery::Delivery;
 use protocol::client::Reply;
 
 /// The word for a delivery's answer.
-pub fn delivery_word(delivery: Delivery) -> &'static str {
+pub(crate) fn delivery_word(delivery: Delivery) -> &'static str {
     match delivery {
         Delivery::Answered => "answered",
         Delivery::Unanswered => "unanswered",
@@ -11,7 +11,7 @@ pub fn delivery_word(delivery: Delivery) -> &'static str {
 }
 
 /// The word for what a reply came to.
-pub fn reply_word(reply: Reply) -> &'static str {
+pub(crate) fn reply_word(reply: Reply) -> &'static str {
     match reply {
         Reply::Heard => "heard",
         Reply::Ignored => "ignored",
