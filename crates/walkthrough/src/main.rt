@@ -1,4 +1,5 @@
 // A walk through the store, from a setting's bytes up, printed step by step.
+mod alignment_part;
 mod cluster_part;
 mod crossing_part;
 mod quorum_part;
@@ -11,7 +12,8 @@ fn walk(rt: &LibcRuntime) -> Result<(), AnyError> {
     settings_part::walk(rt)?;
     quorum_part::walk(rt)?;
     cluster_part::walk(rt)?;
-    crossing_part::walk(rt, rt.alloc())
+    crossing_part::walk(rt, rt.alloc())?;
+    alignment_part::walk(rt, rt.alloc())
 }
 
 fn main(rt: LibcRuntime) -> Result<(), AnyError> {

@@ -1,0 +1,4 @@
+// Worked examples: shown from the definitions, and run.
+pub mod examples;
+#[cfg(test)]
+mod tests;
