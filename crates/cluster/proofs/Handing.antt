@@ -9,7 +9,7 @@ use Rattle.std.specs.declared.result.Result.the-variants.{Ok, Err}
 use Rattle.settings.specs.Kinds.{Kind}
 use Rattle.cluster.specs.Refusals.{Check, first-refusal}
 use Rattle.cluster.specs.State.{State, Fixed}
-use Rattle.cluster.specs.Steps.{Outcome, closed, no-reader-at, reader-at, handed-out, collecting, collect-step}
+use Rattle.cluster.specs.Steps.{Outcome, closed, no-reader-at, reader-at, handed-out, without-completed, collecting, collect-step}
 use Rattle.cluster.specs.declared.completed_read.CompletedRead.{CompletedRead}
 use Rattle.cluster.specs.declared.reader.Reader.{Reader}
 use Rattle.cluster.specs.declared.reader.Completed.{Completed}
@@ -39,7 +39,7 @@ module _ {S : Type 0} (k : Kind S) (s : State) (c : ℕ) where
       pub collect-none : d .completed ≡ None → collect-step k s c ≡ (Err 19, s)
       collect-none ez = let-through None ez
 
-      pub collect-so : (z : Completed) (r : CompletedRead S) (F : Fixed) → d .completed ≡ Some z → r ≡ handed-out k c z → s .fixed ≡ F →
+      pub collect-so : (z : Completed) (r : CompletedRead S) (F : Fixed) (y : Reader) → d .completed ≡ Some z → r ≡ handed-out k c z → s .fixed ≡ F → y ≡ without-completed d →
           collect-step k s c ≡ (
             Ok r,
             record {
@@ -48,11 +48,11 @@ module _ {S : Type 0} (k : Kind S) (s : State) (c : ℕ) where
               free = s .free;
               writer = s .writer;
               replicas = s .replicas;
-              readers = set (s .readers) (c - 1) (record { client = d .client; completed = None });
+              readers = set (s .readers) (c - 1) y;
               messages = s .messages;
               lines = s .lines;
             },
           )
-      collect-so z r F ez er eF =
+      collect-so z r F y ez er eF ey =
           let-through (Some z) ez
-          ∙ outcome (sym er) eF refl refl refl refl (ap (λ (x : Reader). set (s .readers) (c - 1) (record { client = x .client; completed = None })) (sym ed)) refl refl
+          ∙ outcome (sym er) eF refl refl refl refl (ap (λ (x : Reader). set (s .readers) (c - 1) x) (ap without-completed (sym ed) ∙ sym ey)) refl refl

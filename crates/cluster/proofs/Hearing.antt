@@ -65,13 +65,13 @@ module _ {S : Type 0} (k : Kind S) (s : State) (c : ℕ) (m : Message S) (x y : 
         hear k s c m ≡ (Ok Heard, record { fixed = F; book = s .book; free = s .free; writer = w; replicas = s .replicas; readers = ds; messages = s .messages; lines = s .lines })
     heard-so e ed = hears Heard e ∙ outcome refl eF refl refl (sym ew) refl (sym ed) refl refl
 
-    pub turned-so : (l : ℕ) (ms : List (Message Bytes)) → makes Turned → length (s .messages) ≡ l → first-refusal (room (s .fixed .message-places) l 12) ≡ None →
-        ds ≡ readers-with (s .readers) c y → ms ≡ s .messages ++ (Store c (y .op) (y .best) ∷ []) →
+    pub turned-so : (l : ℕ) (t : Message Bytes) (ms : List (Message Bytes)) → makes Turned → length (s .messages) ≡ l → first-refusal (room (s .fixed .message-places) l 12) ≡ None →
+        ds ≡ readers-with (s .readers) c y → t ≡ Store c (y .op) (y .best) → ms ≡ s .messages ++ (t ∷ []) →
         hear k s c m ≡ (Ok Turned, record { fixed = F; book = s .book; free = s .free; writer = w; replicas = s .replicas; readers = ds; messages = ms; lines = s .lines })
-    turned-so l ms e el q ed ems =
+    turned-so l t ms e el q ed et ems =
         hears Turned e
         ∙ accepted s turning (room (s .fixed .message-places) (length (s .messages)) 12) (ap (λ z. first-refusal (room (s .fixed .message-places) z 12)) el ∙ q)
-        ∙ outcome refl eF refl refl (sym ew) refl (sym ed) (sym ems) refl
+        ∙ outcome refl eF refl refl (sym ew) refl (sym ed) (ap (λ z. s .messages ++ (z ∷ [])) (sym et) ∙ sym ems) refl
 
     pub finished-so : (l : ℕ) (t : Line) (ls : List Line) → makes Finished → length (s .lines) ≡ l → first-refusal (room (s .fixed .line-places) l 13) ≡ None →
         ds ≡ readers-done (s .readers) c x y → t ≡ end-line c x → ls ≡ s .lines ++ (t ∷ []) →

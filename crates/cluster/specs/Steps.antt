@@ -271,6 +271,10 @@ drop-step s i =
       },
     )
 
+-- a reader's row without its completed read
+abbrev pub without-completed : Reader → Reader
+without-completed d = record { client = d .client; completed = None }
+
 -- the state without the completed read of the reader c
 abbrev pub collected : State → ℕ → State
 collected s c = record {
@@ -279,7 +283,7 @@ collected s c = record {
   free = s .free;
   writer = s .writer;
   replicas = s .replicas;
-  readers = set (s .readers) (c - 1) (record { client = reader-at (s .readers) c .client; completed = None });
+  readers = set (s .readers) (c - 1) (without-completed (reader-at (s .readers) c));
   messages = s .messages;
   lines = s .lines;
 }

@@ -3,6 +3,7 @@ ghost use mathlib.Core.Path.{_≡_};
 ghost use Prim.Native.Nat.{_≤_, _<_};
 ghost use lib.ListN.{length, getD, take};
 ghost use Rattle.std.specs.declared.option.Option.the-variants.{Some};
+ghost use Rattle.protocol.specs.declared.message.Message.the-variants.{Store};
 ghost use Rattle.cluster.specs.Steps.{no-message, no-version, no-reader, reader-at, client-at, writer-with, readers-with, completed-of, readers-done, end-line};
 use crate::journal::Line;
 use crate::journal::LineKind;
@@ -128,6 +129,18 @@ pub(crate) fn finish_client(
     } else {
         let completed = Some(completed_of(before));
         readers[id as usize - 1] = Reader { client, completed };
+    }
+}
+
+/// The message by which a reader has its best version stored.
+pub(crate) fn write_back(id: u32, client: Client) -> Message<Encoding>
+    ensures { λ r. ⌜ r ≡ Store id (client .op) (client .best) ⌝ }
+{
+    let version = client.best;
+    Message::Store {
+        client: id,
+        op: client.op,
+        version,
     }
 }
 

@@ -7,7 +7,7 @@ ghost use Rattle.std.specs.Options.{Cases as BySome, mapped};
 ghost use Rattle.std.specs.Results.{Cases};
 ghost use Rattle.cluster.specs.Refusals.{number, numbered, first-refusal};
 ghost use Rattle.cluster.specs.State.{state, Kept, Unchanged};
-ghost use Rattle.cluster.specs.Steps.{no-reader-at, handed-out, collect-step};
+ghost use Rattle.cluster.specs.Steps.{no-reader-at, handed-out, without-completed, collect-step};
 use crate::clients::reader_at;
 use crate::cluster::Cluster;
 use crate::completed_read::CompletedRead;
@@ -46,6 +46,16 @@ fn hand_out<S: Setting>(reader: u32, completed: Completed) -> CompletedRead<S>
     }
 }
 
+/// A reader's row without its completed read.
+fn emptied(row: Reader) -> Reader
+    ensures { λ r. ⌜ r ≡ without-completed row ⌝ }
+{
+    Reader {
+        client: row.client,
+        completed: None,
+    }
+}
+
 impl<S: Setting, P: QuorumSystem, K: Signatures> Cluster<S, P, K> {
     /// Moves out a reader's completed read.
     pub fn collect(
@@ -59,7 +69,12 @@ impl<S: Setting, P: QuorumSystem, K: Signatures> Cluster<S, P, K> {
         ensures steps { λ r. ⌜ (let of = state quorums book free in collect-step kind (of (now (self .entry)) (now (replicas .entry)) (now (readers .entry)) (now (messages .entry)) (now (lines .entry))) reader ≡ (numbered r, of (now (self .exit)) (now (replicas .exit)) (now (readers .exit)) (now (messages .exit)) (now (lines .exit)))) ⌝ }
         ensures holds { λ r. ⌜ Cases r (λ _. Kept (now (self .entry)) (now (self .exit)) × (now (self .exit) .signatures ≡ now (self .entry) .signatures)) (λ _. Unchanged (now (self .entry)) (now (self .exit)) (now (replicas .entry)) (now (replicas .exit)) (now (readers .entry)) (now (readers .exit)) (now (messages .entry)) (now (messages .exit)) (now (lines .entry)) (now (lines .exit))) ⌝ }
     {
-        if let Some(refusal) = self.closed(replicas, readers, messages, lines) {
+        if let Some(refusal) = self.closed(
+            replicas.len(),
+            readers.len(),
+            messages.len(),
+            lines.len(),
+        ) {
             return Err(refusal);
         }
         if let Some(refusal) = reader_refusal(readers, reader) {
@@ -69,10 +84,7 @@ impl<S: Setting, P: QuorumSystem, K: Signatures> Cluster<S, P, K> {
         let Some(completed) = row.completed else {
             return Err(Refusal::NothingCompleted);
         };
-        readers[reader as usize - 1] = Reader {
-            client: row.client,
-            completed: None,
-        };
+        readers[reader as usize - 1] = emptied(row);
         Ok(hand_out(reader, completed))
     }
 }

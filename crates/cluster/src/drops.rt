@@ -30,7 +30,12 @@ impl<S: Setting, P: QuorumSystem, K: Signatures> Cluster<S, P, K> {
         ensures steps { λ r. ⌜ (let of = state quorums book free in drop-step (of (now (self .entry)) (now (replicas .entry)) (now (readers .entry)) (now (messages .entry)) (now (lines .entry))) message ≡ (numbered r, of (now (self .exit)) (now (replicas .exit)) (now (readers .exit)) (now (messages .exit)) (now (lines .exit)))) ⌝ }
         ensures holds { λ r. ⌜ Cases r (λ _. Kept (now (self .entry)) (now (self .exit)) × (now (self .exit) .signatures ≡ now (self .entry) .signatures)) (λ _. Unchanged (now (self .entry)) (now (self .exit)) (now (replicas .entry)) (now (replicas .exit)) (now (readers .entry)) (now (readers .exit)) (now (messages .entry)) (now (messages .exit)) (now (lines .entry)) (now (lines .exit))) ⌝ }
     {
-        if let Some(refusal) = self.closed(replicas, readers, messages, lines) {
+        if let Some(refusal) = self.closed(
+            replicas.len(),
+            readers.len(),
+            messages.len(),
+            lines.len(),
+        ) {
             return Err(refusal);
         }
         if let Some(refusal) = room_refusal(message, self.message_count, Refusal::NoMessage) {

@@ -9,19 +9,17 @@ ghost use Rattle.std.specs.Options.{Cases, mapped};
 ghost use Rattle.replica_sets.specs.Sets.{has};
 ghost use Rattle.protocol.specs.Messages.{is-reply, replica-of, client-of};
 ghost use Rattle.cluster.specs.Refusals.{number, first-refusal};
-ghost use Rattle.cluster.specs.State.{sizes-kept, state, Sized};
-ghost use Rattle.cluster.specs.Steps.{begin-checks, no-reader-at, reader-at, open-reads, open-operations, closed};
+ghost use Rattle.cluster.specs.State.{sizes-kept, Sized};
+ghost use Rattle.cluster.specs.Steps.{begin-checks, no-reader-at, reader-at, open-reads, open-operations};
 ghost use Rattle.cluster.specs.Rooms.{Room};
 use crate::clients::reader_at;
 use crate::cluster::Cluster;
-use crate::journal::Line;
 use crate::limits::LAST_OPERATION;
 use crate::reader::Reader;
 use crate::refusal::Refusal;
 use encodings::encoding::Encoding;
 use protocol::client::Client;
 use protocol::message::Message;
-use protocol::version::Version;
 use quorums::quorum_system::QuorumSystem;
 use replica_sets::replica_set::ReplicaSet;
 use settings::setting::Setting;
@@ -171,21 +169,21 @@ pub(crate) fn room_refusal(used: usize, places: usize, refusal: Refusal) -> Opti
 }
 
 impl<S: Setting, P: QuorumSystem, K: Signatures> Cluster<S, P, K> {
-    /// Why every call with these tables is refused, if it is.
+    /// Why every call with tables of these sizes is refused, if it is.
     pub(crate) fn closed(
         &self,
-        replicas: &[Version<Encoding>],
-        readers: &[Reader],
-        messages: &[Message<Encoding>],
-        lines: &[Line],
+        replicas: usize,
+        readers: usize,
+        messages: usize,
+        lines: usize,
     ) -> Option<Refusal>
-        ensures refusal { λ r. ⌜ first-refusal (closed (state quorums book free (now (self .entry)) (now (replicas .entry)) (now (readers .entry)) (now (messages .entry)) (now (lines .entry)))) ≡ mapped number r ⌝ }
-        ensures sized { λ r. ⌜ Cases r (Sized quorums (now (self .entry)) (length (now (replicas .entry))) (length (now (readers .entry))) (length (now (messages .entry))) (length (now (lines .entry)))) (λ _. Unit {0}) ⌝ }
+        ensures refusal { λ r. ⌜ first-refusal ((now (self .entry) .shut, 8) ∷ (not (sizes-kept quorums (now (self .entry)) replicas readers messages lines), 5) ∷ []) ≡ mapped number r ⌝ }
+        ensures sized { λ r. ⌜ Cases r (Sized quorums (now (self .entry)) replicas readers messages lines) (λ _. Unit {0}) ⌝ }
     {
-        let sized = replicas.len() == self.system.replicas() as usize
-            && readers.len() == self.reader_places
-            && messages.len() == self.message_places
-            && lines.len() == self.line_places;
+        let sized = replicas == self.system.replicas() as usize
+            && readers == self.reader_places
+            && messages == self.message_places
+            && lines == self.line_places;
         closed_refusal(self.shut, sized)
     }
 }

@@ -11,6 +11,7 @@ use crate::clients::end_line;
 use crate::clients::finish_client;
 use crate::clients::message_at;
 use crate::clients::put_client;
+use crate::clients::write_back;
 use crate::cluster::Cluster;
 use crate::journal::Line;
 use crate::reader::Reader;
@@ -62,15 +63,7 @@ impl<S: Setting, P: QuorumSystem, K: Signatures> Cluster<S, P, K> {
                     return Err(refusal);
                 }
                 put_client(&mut self.writer, readers, id, client);
-                append_row(
-                    messages,
-                    self.message_count,
-                    Message::Store {
-                        client: id,
-                        op: client.op,
-                        version: client.best,
-                    },
-                );
+                append_row(messages, self.message_count, write_back(id, client));
                 self.message_count += 1;
                 Ok(Reply::Turned)
             }
@@ -102,7 +95,12 @@ impl<S: Setting, P: QuorumSystem, K: Signatures> Cluster<S, P, K> {
         ensures steps { λ r. ⌜ (let of = state quorums book free in reply-step kind (of (now (self .entry)) (now (replicas .entry)) (now (readers .entry)) (now (messages .entry)) (now (lines .entry))) message ≡ (numbered r, of (now (self .exit)) (now (replicas .exit)) (now (readers .exit)) (now (messages .exit)) (now (lines .exit)))) ⌝ }
         ensures holds { λ r. ⌜ Cases r (λ _. Kept (now (self .entry)) (now (self .exit)) × (now (self .exit) .signatures ≡ now (self .entry) .signatures)) (λ _. Unchanged (now (self .entry)) (now (self .exit)) (now (replicas .entry)) (now (replicas .exit)) (now (readers .entry)) (now (readers .exit)) (now (messages .entry)) (now (messages .exit)) (now (lines .entry)) (now (lines .exit))) ⌝ }
     {
-        if let Some(refusal) = self.closed(replicas, readers, messages, lines) {
+        if let Some(refusal) = self.closed(
+            replicas.len(),
+            readers.len(),
+            messages.len(),
+            lines.len(),
+        ) {
             return Err(refusal);
         }
         let row = message_at(messages, self.message_count, message);
@@ -137,7 +135,12 @@ impl<S: Setting, P: QuorumSystem, K: Signatures> Cluster<S, P, K> {
         ensures steps { λ r. ⌜ (let of = state quorums book free in forge-step kind (of (now (self .entry)) (now (replicas .entry)) (now (readers .entry)) (now (messages .entry)) (now (lines .entry))) message ≡ (numbered r, of (now (self .exit)) (now (replicas .exit)) (now (readers .exit)) (now (messages .exit)) (now (lines .exit)))) ⌝ }
         ensures holds { λ r. ⌜ Cases r (λ _. Kept (now (self .entry)) (now (self .exit)) × (now (self .exit) .signatures ≡ now (self .entry) .signatures)) (λ _. Unchanged (now (self .entry)) (now (self .exit)) (now (replicas .entry)) (now (replicas .exit)) (now (readers .entry)) (now (readers .exit)) (now (messages .entry)) (now (messages .exit)) (now (lines .entry)) (now (lines .exit))) ⌝ }
     {
-        if let Some(refusal) = self.closed(replicas, readers, messages, lines) {
+        if let Some(refusal) = self.closed(
+            replicas.len(),
+            readers.len(),
+            messages.len(),
+            lines.len(),
+        ) {
             return Err(refusal);
         }
         if let Some(refusal) = forge_refusal(

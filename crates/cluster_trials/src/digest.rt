@@ -6,6 +6,7 @@ use protocol::client::Client;
 use protocol::client::Phase;
 use protocol::message::Message;
 use protocol::version::Version;
+use signatures::signatures::Signatures;
 
 fn mixed(digest: u64, word: u32) -> u64 {
     (digest ^ u64::from(word)).wrapping_mul(1_099_511_628_211)
@@ -56,10 +57,11 @@ fn with_message(digest: u64, message: &Message<Encoding>) -> u64 {
 }
 
 /// One number for all that the trial holds.
-pub(crate) fn digest_of(trial: &Trial) -> u64 {
+pub(crate) fn digest_of<K: Signatures>(trial: &Trial<K>) -> u64 {
     let mut d = with_client(14_695_981_039_346_656_037, &trial.cluster.writer());
     d = mixed(d, (trial.cluster.messages_in_flight() & 0xffff) as u32);
     d = mixed(d, (trial.cluster.journal_lines() & 0xffff) as u32);
+    d = mixed(d, (trial.cluster.signatures().entries() & 0xffff) as u32);
     for version in &trial.replicas {
         d = with_version(d, version);
     }

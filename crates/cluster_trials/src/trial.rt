@@ -1,10 +1,12 @@
-// A small cluster with its tables: four replicas, of which replica 3 is faulty, and two readers.
+// A small cluster with its tables: four replicas, two readers, room for 12 messages and 6 journal lines.
 use cluster::cluster::Cluster;
+use cluster::completed_read::CompletedRead;
 use cluster::delivery::Delivery;
 use cluster::journal::Line;
 use cluster::reader::Reader;
 use encodings::encoding::Encoding;
 use encodings::encoding::blank;
+use protocol::client::Phase;
 use protocol::client::Reply;
 use protocol::client::fresh_client;
 use protocol::message::Message;
@@ -15,22 +17,21 @@ use replica_sets::replica_set::ReplicaSet;
 use settings::setting::Setting;
 use settings::shelf_mark::ShelfMark;
 use settings::shelf_mark::codec::ShelfMarkSetting;
-use signatures::inline_signer::InlineSigner;
-use signatures::inline_signer::scheme::InlineSignerSignatures;
+use signatures::signatures::Signatures;
 
 /// A cluster with its tables.
 #[derive(Drop)]
-pub(crate) struct Trial {
-    pub cluster: Cluster<ShelfMark, Threshold, InlineSigner>,
+pub(crate) struct Trial<K> {
+    pub cluster: Cluster<ShelfMark, Threshold, K>,
     pub replicas: [Version<Encoding>; 4],
     pub readers: [Reader; 2],
     pub messages: [Message<Encoding>; 12],
     pub lines: [Line; 6],
 }
 
-impl Trial {
-    /// A cluster of four replicas with this set of faulty ones, and this many readers.
-    pub(crate) fn new(faulty: ReplicaSet, reader_count: usize) -> Trial {
+impl<K: Signatures> Trial<K> {
+    /// A cluster of four replicas with this signature scheme and this set of faulty replicas.
+    pub(crate) fn new(signatures: K, faulty: ReplicaSet) -> Trial<K> {
         let mut replicas = [Version {
             timestamp: 0,
             value: blank(),
@@ -49,9 +50,9 @@ impl Trial {
         }; 6];
         let cluster = Cluster::new(
             Threshold::new(4, 1),
-            InlineSigner::new(0),
+            signatures,
             faulty,
-            reader_count,
+            2,
             &mut replicas,
             &mut readers,
             &mut messages,
@@ -153,6 +154,27 @@ impl Trial {
             Ok(()) => Ok(()),
             Err(refusal) => Err(refusal.number()),
         }
+    }
+
+    /// `collect`, with a refusal by its number.
+    pub(crate) fn collect(&mut self, reader: u32) -> Result<CompletedRead<ShelfMark>, u32> {
+        match self.cluster.collect(
+            &mut self.replicas,
+            &mut self.readers,
+            &mut self.messages,
+            &mut self.lines,
+            reader,
+        ) {
+            Ok(completed) => Ok(completed),
+            Err(refusal) => Err(refusal.number()),
+        }
+    }
+
+    /// Puts reader 1 into the read 1, one reply short of the end of the phase.
+    pub(crate) fn put_near_end(&mut self, phase: Phase) {
+        self.readers[0].client.phase = phase;
+        self.readers[0].client.op = 1;
+        self.readers[0].client.heard = ReplicaSet::of_bits(3);
     }
 }
 

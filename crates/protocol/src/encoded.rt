@@ -68,10 +68,10 @@ pub fn encode_message<S: Setting>(message: Message<S>) -> Message<Encoding>
 }
 
 /// The message with the setting that its bytes are decoded to.
-pub fn decode_message<S: Setting>(message: Message<Encoding>) -> Message<S>
-    ensures { λ r. ⌜ r ≡ each-value (kind .decode) message ⌝ }
+pub fn decode_message<S: Setting>(row: Message<Encoding>) -> Message<S>
+    ensures { λ r. ⌜ r ≡ each-value (kind .decode) row ⌝ }
 {
-    match message {
+    match row {
         Message::Query { client, op } => Message::Query { client, op },
         Message::Store {
             client,

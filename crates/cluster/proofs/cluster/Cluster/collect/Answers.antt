@@ -19,8 +19,8 @@ returns-in-rest-completed g c =
 
 pub returns : need.returns
 returns g c = record {
-  steps = collect-so _ _ _ (c .in-rest .ensures tt .refusal) (c .in-rest-reader-refusal .ensures tt .refusal) _ (c .reader-at-row .ensures) _ _ _
+  steps = collect-so _ _ _ (c .in-rest .ensures tt .refusal) (c .in-rest-reader-refusal .ensures tt .refusal) _ (c .reader-at-row .ensures) _ _ _ _
       (c .in-Some-completed .is) (c .hand-out .ensures)
-      (sizes-stay (g .P·QuorumSystem .quorums) (c .args .self .now) (length (c .args .replicas .now)) (simp length-set) refl refl);
+      (sizes-stay (g .P·QuorumSystem .quorums) (c .args .self .now) (length (c .args .replicas .now)) (simp length-set) refl refl) (c .emptied .ensures);
   holds = search needs;
 }
