@@ -1,4 +1,6 @@
 // Alignment runs: what follows a completed read.
+#![tactic(auto)]
+
 pub mod alignment_refusal;
 pub mod alignment_run;
 mod bands;

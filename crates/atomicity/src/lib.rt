@@ -1,4 +1,6 @@
 // What holds of every run of a cluster.
+#![tactic(auto)]
+
 pub mod answer;
 pub mod call;
 pub mod calling;

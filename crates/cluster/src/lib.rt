@@ -1,4 +1,6 @@
 // The cluster: one writer, its readers, the replicas, and the messages between them.
+#![tactic(auto)]
+
 mod clients;
 pub mod cluster;
 pub mod collecting;

@@ -1,4 +1,6 @@
 // What the calls cost: a workload is run so many times, and the sum of its answers is printed.
+#![tactic(auto)]
+
 mod bench;
 mod numbers;
 mod schemes;

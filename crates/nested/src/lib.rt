@@ -1,3 +1,5 @@
 // Quorum systems of groups of replicas.
+#![tactic(auto)]
+
 mod group_test;
 pub mod nested;

@@ -1,4 +1,6 @@
 // Quorum systems.
+#![tactic(auto)]
+
 pub mod quorum_system;
 pub mod refusal;
 pub mod threshold;

@@ -1,3 +1,5 @@
 // Sets of replicas.
+#![tactic(auto)]
+
 mod masks;
 pub mod replica_set;

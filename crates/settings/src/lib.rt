@@ -1,4 +1,6 @@
 // Kinds of setting, and how each is written as bytes.
+#![tactic(auto)]
+
 pub mod lens_correction;
 pub mod setting;
 pub mod shelf_mark;

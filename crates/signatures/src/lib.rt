@@ -1,4 +1,6 @@
 // Signature schemes: each keeps a book of what it signed.
+#![tactic(auto)]
+
 mod book;
 pub mod entry;
 pub mod inline_signer;

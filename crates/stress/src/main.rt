@@ -1,4 +1,6 @@
 // Random calls of random clusters, with a digest of all answers and tables.
+#![tactic(auto)]
+
 mod bytes;
 mod calls;
 mod digest;

@@ -1,4 +1,5 @@
 // A walk through the store, from a setting's bytes up, printed step by step.
+#![tactic(auto)]
 
 mod alignment_part;
 mod cluster_part;

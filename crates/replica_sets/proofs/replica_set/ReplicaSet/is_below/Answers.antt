@@ -6,5 +6,5 @@ pub returns : goal.returns
 returns c =
     let n = c.args.count in
     let a = c.args.self.members in
-    let bits = c.is-none.ensures ∙ ap (λ x. eqb x 0) c.from.ensures ∙ shift_zero a n in
-    record { bits = bits; each = decides_below c.is-none.result n a bits }
+    let bits = c.is_none.ensures ∙ ap (λ x. eqb x 0) c.from.ensures ∙ shift_zero a n in
+    record { bits = bits; each = decides_below c.is_none.result n a bits }

@@ -9,5 +9,5 @@ returns c =
     let a = c.args.self.members in
     let s = c.args.start in
     let n = c.args.len in
-    let bits = c.both.ensures ∙ ap₂ bit_and c.from-from-start.ensures (c.low.ensures ∙ ap all c.min.ensures) ∙ part_mask a s n (search rules) in
+    let bits = c.both.ensures ∙ ap₂ bit_and c.from-from_start.ensures (c.low.ensures ∙ ap all c.min.ensures) ∙ part_mask a s n (search rules) in
     record { bits = bits; each = λ i. ap (λ x. has x i) bits ∙ has_part a s n i }
