@@ -17,7 +17,7 @@ pub(crate) enum GroupTest {
 impl GroupTest {
     // The answer for a group's part.
     fn is_passed<I: QuorumSystem>(self, inner: &I, part: ReplicaSet) -> bool
-        ensures { result ≡ passes self (quorums inner.now) part.members }
+        ensures { result ≡ passes self (I.quorums inner.now) part.members }
     {
         match self {
             GroupTest::HasQuorum => inner.is_quorum(part),
@@ -33,7 +33,7 @@ impl GroupTest {
         set: ReplicaSet,
     ) -> ReplicaSet
         requires { count ≤ 32 }
-        ensures { result.members ≡ groups count (quorums inner.now).size (passes self (quorums inner.now)) set.members }
+        ensures { result.members ≡ groups count (I.quorums inner.now).size (passes self (I.quorums inner.now)) set.members }
     {
         let size = inner.replicas();
         let mut found = ReplicaSet::empty();

@@ -7,9 +7,9 @@ loop-i-init g c = (ran_start _ _ _ c.requires.empty.0, c.requires.empty.1, refl)
 
 pub loop-i-preserved : goal.loop-i-preserved
 loop-i-preserved g c = (
-  ran_more _ _ _ _ _ _ _ _ _ _ c.loop-i-test.true c.index-calls-i.is c.push-reserved.ensures.items c.loop-i.invariant.0 c.make-call-answer.ensures.steps,
-  c.push-reserved.ensures.len ∙ ap (λ n. n + 1) c.loop-i.invariant.1,
-  c.push-reserved.ensures.capacity ∙ c.loop-i.invariant.2,
+  ran_more _ _ _ _ _ _ _ _ _ _ c.loop-i-test.true c.index-calls-i.is c.push_reserved.ensures.items c.loop-i.invariant.0 c.make_call-answer.ensures.steps,
+  c.push_reserved.ensures.len ∙ ap (λ n. n + 1) c.loop-i.invariant.1,
+  c.push_reserved.ensures.capacity ∙ c.loop-i.invariant.2,
 )
 
 pub returns : goal.returns

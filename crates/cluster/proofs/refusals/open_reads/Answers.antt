@@ -3,15 +3,15 @@ use Rattle.std.proofs.lemmas.List.{at_drop_all}
 use Rattle.cluster.specs.Steps.{open_reads}
 use Rattle.cluster.proofs.Opened.{open_more}
 use Rattle.cluster.proofs.refusals.open_reads.Goals as goal
-use Rattle.cluster.proofs.refusals.open_reads.Goals.{then-not-is-idle, else-not-is-idle}
+use Rattle.cluster.proofs.refusals.open_reads.Goals.{then-not-is_idle, else-not-is_idle}
 
 pub loop-reader-preserved : goal.loop-reader-preserved
 loop-reader-preserved c =
-    elim c.if-not-is-idle.branch [
-      | then-not-is-idle w ↦
-          omega (arith, w.count-is, open_more c.args.readers.now c.loop-reader.reader-index _ _ c.loop-reader-test.true (sym c.is_idle.ensures ∙ w.if-not-is-idle.true))
-      | else-not-is-idle w ↦
-          omega (arith, w.count-is, open_more c.args.readers.now c.loop-reader.reader-index _ _ c.loop-reader-test.true (sym c.is_idle.ensures ∙ w.if-not-is-idle.false))
+    elim c.if-not-is_idle.branch [
+      | then-not-is_idle w ↦
+          omega (arith, w.count-is, open_more c.args.readers.now c.loop-reader.reader-index _ _ c.loop-reader-test.true (sym c.is_idle.ensures ∙ w.if-not-is_idle.true))
+      | else-not-is_idle w ↦
+          omega (arith, w.count-is, open_more c.args.readers.now c.loop-reader.reader-index _ _ c.loop-reader-test.true (sym c.is_idle.ensures ∙ w.if-not-is_idle.false))
     ]
 
 pub returns : goal.returns

@@ -3,8 +3,8 @@ use lib.Bits.{bit_or}
 use Rattle.fail_prone.specs.Listed.{some_listed, hold}
 use Rattle.fail_prone.proofs.lists.+hold_with.Given as goal
 
-abbrev pub decreases-hold-with : goal.decreases-hold-with
-decreases-hold-with l = l.more
+abbrev pub decreases-hold_with : goal.decreases-hold_with
+decreases-hold_with l = l.more
 
 abbrev pub invariant-loop-s : goal.invariant-loop-s
 invariant-loop-s l =

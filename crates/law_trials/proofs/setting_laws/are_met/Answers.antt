@@ -3,19 +3,19 @@ use Rattle.encodings.specs.Encodings.{same_bytes}
 use Rattle.encodings.proofs.Packs.{same_decides}
 use Rattle.law_trials.proofs.setting_laws.are_met.Goals as goal
 
-pub returns-then-is-encoding : goal.returns-then-is-encoding
-returns-then-is-encoding g c =
+pub returns-then-is_encoding : goal.returns-then-is_encoding
+returns-then-is_encoding g c =
     let k = g.S.Setting.kind in
-    let passes = sym c.is_encoding.ensures ∙ c.if-is-encoding.true in
+    let passes = sym c.is_encoding.ensures ∙ c.if-is_encoding.true in
     c.same.ensures
     ∙ ap (λ b. same_bytes b c.args.bytes) (c.encode-decoded.ensures ∙ ap k.encode c.decode.ensures ∙ g.met.S.Setting.lawful.forth c.args.bytes passes)
     ∙ (same_decides c.args.bytes c.args.bytes).1 refl
 
-pub returns-else-is-encoding : goal.returns-else-is-encoding
-returns-else-is-encoding g c =
+pub returns-else-is_encoding : goal.returns-else-is_encoding
+returns-else-is_encoding g c =
     let k = g.S.Setting.kind in
-    let fails = sym c.is_encoding.ensures ∙ c.if-is-encoding.false in
-    c.same-else-is-encoding.ensures
+    let fails = sym c.is_encoding.ensures ∙ c.if-is_encoding.false in
+    c.same-else-is_encoding.ensures
     ∙ ap₂ same_bytes
     (c.encode-decoded.ensures ∙ ap k.encode (c.decode.ensures ∙ g.met.S.Setting.lawful.other c.args.bytes fails))
     (c.encode.ensures ∙ ap k.encode c.initial.ensures)

@@ -9,7 +9,7 @@ returns g c =
     let k = g.S.Setting.kind in
     let own = k.encode c.args.setting in
     let laws = g.met.S.Setting.lawful in
-    let passes = c.is-encoding-passes.ensures ∙ ap k.is_encoding c.encode-encoding.ensures ∙ laws.passes c.args.setting in
+    let passes = c.is_encoding-passes.ensures ∙ ap k.is_encoding c.encode-encoding.ensures ∙ laws.passes c.args.setting in
     let decoded = c.decode.ensures ∙ ap k.decode c.encode-encoding.ensures ∙ laws.back c.args.setting in
-    and_from c.is-encoding-passes.result c.same.result passes
+    and_from c.is_encoding-passes.result c.same.result passes
     (c.same.ensures ∙ ap₂ same_bytes (c.encode-restored.ensures ∙ ap k.encode decoded) c.encode-encoding.ensures ∙ (same_decides own own).1 refl)

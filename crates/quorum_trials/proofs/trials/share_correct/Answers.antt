@@ -4,14 +4,14 @@ use Rattle.replica_sets.specs.Sets.{has}
 use Rattle.quorums.proofs.Intersections.{common_correct}
 use Rattle.quorum_trials.proofs.trials.share_correct.Goals as goal
 
-pub returns-then-are-on-trial : goal.returns-then-are-on-trial
-returns-then-are-on-trial g c =
+pub returns-then-are_on_trial : goal.returns-then-are_on_trial
+returns-then-are_on_trial g c =
     let p = c.args.system.now in
     let q = g.P.QuorumSystem.quorums p in
     let a = c.args.first.members in
     let b = c.args.second.members in
     let f = c.args.faulty.members in
-    let trial = sym c.if-are-on-trial.ensures in
+    let trial = sym c.if-are_on_trial.ensures in
     let u = and_parts (q.quorum a && q.quorum b) (q.fault f) trial in
     let v = and_parts (q.quorum a) (q.quorum b) u.0 in
     let r = common_correct q (g.met.P.QuorumSystem.lawful p) a b f v.0 v.1 u.1 in
@@ -19,8 +19,8 @@ returns-then-are-on-trial g c =
     let there : has c.difference.result.members i ≡ true =
     c.difference.ensures i
     ∙ and_from (has c.intersection.result.members i) (not (has f i)) (c.intersection.ensures.each i ∙ and_from (has a i) (has b i) r.2 r.3) (not_from_false (has f i) r.4) in
-    let some : not c.is-empty.result ≡ true =
-    ⊎_elim (λ (e : c.is-empty.result ≡ true). absurd (both_ways (has c.difference.result.members i) (c.is-empty.ensures.each.0 e i) there))
-    (λ (e : c.is-empty.result ≡ false). not_from_false c.is-empty.result e)
-    (cases_Bool c.is-empty.result) in
+    let some : not c.is_empty.result ≡ true =
+    ⊎_elim (λ (e : c.is_empty.result ≡ true). absurd (both_ways (has c.difference.result.members i) (c.is_empty.ensures.each.0 e i) there))
+    (λ (e : c.is_empty.result ≡ false). not_from_false c.is_empty.result e)
+    (cases_Bool c.is_empty.result) in
     record { answer = some ∙ sym trial; shared = λ e. r }

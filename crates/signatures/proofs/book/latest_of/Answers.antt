@@ -4,4 +4,4 @@ use Rattle.signatures.proofs.Rising.{newest_last}
 use Rattle.signatures.proofs.book.latest_of.Goals as goal
 
 pub returns : goal.returns
-returns c = ap (λ (e : Entry). e.timestamp) c.last-of.ensures ∙ sym (newest_last 0 c.args.book.now c.requires)
+returns c = ap (λ (e : Entry). e.timestamp) c.last_of.ensures ∙ sym (newest_last 0 c.args.book.now c.requires)

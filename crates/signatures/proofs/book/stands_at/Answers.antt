@@ -10,7 +10,7 @@ pub returns-then-place-book : goal.returns-then-place-book
 returns-then-place-book c =
     let b = c.args.book.now in
     let there = drop_more b c.args.place no_entry c.if-place-book.true in
-    rw (there, ← c.entry-at.ensures) c.is-entry.ensures
+    rw (there, ← c.entry_at.ensures) c.is_entry.ensures
 
 pub returns-else-place-book : goal.returns-else-place-book
 returns-else-place-book c =

@@ -6,9 +6,9 @@ pub returns : goal.returns
 returns g c =
     let a = c.args.self.now.bands in
     let k = c.args.band in
-    let b = c.with-band-self.result in
+    let b = c.with_band-self.result in
     let free = c.in-default.ensures.free in
-    let each = one_more a b k c.with-band-self.ensures in
+    let each = one_more a b k c.with_band-self.ensures in
     record {
       answer = c.in-default.ensures.refusal;
       accepted = each;

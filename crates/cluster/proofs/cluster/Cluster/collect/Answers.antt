@@ -7,18 +7,18 @@ use Rattle.cluster.proofs.cluster.Cluster.collect.Goals as goal
 pub returns-in-Some : goal.returns-in-Some
 returns-in-Some g c = record { steps = collect_shut _ _ _ _ c.in-Some.ensures.refusal; holds = search rules }
 
-pub returns-in-Some-reader-refusal : goal.returns-in-Some-reader-refusal
-returns-in-Some-reader-refusal g c =
-    record { steps = collect_refused _ _ _ c.in-default.ensures.refusal _ c.in-Some-reader-refusal.ensures.refusal; holds = search rules }
+pub returns-in-Some-reader_refusal : goal.returns-in-Some-reader_refusal
+returns-in-Some-reader_refusal g c =
+    record { steps = collect_refused _ _ _ c.in-default.ensures.refusal _ c.in-Some-reader_refusal.ensures.refusal; holds = search rules }
 
 pub returns-in-default-completed : goal.returns-in-default-completed
 returns-in-default-completed g c =
-    record { steps = collect_none _ _ _ c.in-default.ensures.refusal c.in-default-reader-refusal.ensures.refusal _ c.reader-at-row.ensures c.in-default-completed.is; holds = search rules }
+    record { steps = collect_none _ _ _ c.in-default.ensures.refusal c.in-default-reader_refusal.ensures.refusal _ c.reader_at-row.ensures c.in-default-completed.is; holds = search rules }
 
 pub returns : goal.returns
 returns g c = record {
-  steps = collect_so _ _ _ c.in-default.ensures.refusal c.in-default-reader-refusal.ensures.refusal _ c.reader-at-row.ensures _ _ _ _
-      c.in-Some-completed.is c.hand-out.ensures
+  steps = collect_so _ _ _ c.in-default.ensures.refusal c.in-default-reader_refusal.ensures.refusal _ c.reader_at-row.ensures _ _ _ _
+      c.in-Some-completed.is c.hand_out.ensures
       (sizes_stay g.P.QuorumSystem.quorums c.args.self.now (length c.args.replicas.now) (simp length-set) refl refl) c.emptied.ensures;
   holds = search rules;
 }

@@ -5,7 +5,7 @@ use Rattle.replica_sets.specs.Sets.{those}
 use Rattle.nested.specs.Nesting.{groups, passes}
 use Rattle.nested.specs.Groups.{groups_put, groups_skip}
 use Rattle.nested.proofs.group_test.GroupTest.passing.Goals as goal
-use Rattle.nested.proofs.group_test.GroupTest.passing.Goals.{then-is-passed, else-is-passed}
+use Rattle.nested.proofs.group_test.GroupTest.passing.Goals.{then-is_passed, else-is_passed}
 
 pub loop-group-init : goal.loop-group-init
 unfolding those
@@ -16,14 +16,14 @@ loop-group-preserved g c =
     let q = g.I.QuorumSystem.quorums c.args.inner.now in
     let k = c.loop-group.group in
     let found = c.loop-group.found.members in
-    elim c.if-is-passed.branch [
-      | then-is-passed w ↦
+    elim c.if-is_passed.branch [
+      | then-is_passed w ↦
           groups_put k q.size c.replicas-size.result c.args.set.members c.part.result.members found _ (passes c.args.self q)
-          c.loop-group.invariant c.replicas-size.ensures c.part.ensures.bits (sym c.is-passed.ensures ∙ w.if-is-passed.true)
+          c.loop-group.invariant c.replicas-size.ensures c.part.ensures.bits (sym c.is_passed.ensures ∙ w.if-is_passed.true)
           (ap (λ s. s.members) w.found-is ∙ w.with-found.ensures.bits ∙ cond-true (ltb k 32) (bit_or found (2 ^ k)) found (lt-ltb k 32 (omega arith)))
-      | else-is-passed w ↦
+      | else-is_passed w ↦
           groups_skip k q.size c.replicas-size.result c.args.set.members c.part.result.members found _ (passes c.args.self q)
-          c.loop-group.invariant c.replicas-size.ensures c.part.ensures.bits (sym c.is-passed.ensures ∙ w.if-is-passed.false)
+          c.loop-group.invariant c.replicas-size.ensures c.part.ensures.bits (sym c.is_passed.ensures ∙ w.if-is_passed.false)
           (ap (λ s. s.members) w.found-is)
     ]
 

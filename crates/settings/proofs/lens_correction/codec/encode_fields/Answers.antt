@@ -9,6 +9,6 @@ pub returns : goal.returns
 returns c =
     let f = c.args.fields in
     let fits : Fitting f = search rules in
-    let made : c.bytes-of.result ≡ fields_bytes f = c.bytes-of.ensures ∙ ap encode_words c.words-of.ensures in
+    let made : c.bytes_of.result ≡ fields_bytes f = c.bytes_of.ensures ∙ ap encode_words c.words_of.ensures in
     let Back : List ℕ → Type 0 = λ bs. is_lens bs ≡ true → (lens_of bs).fields ≡ f in
     record { value = made; test = ap is_lens made ∙ bytes_pass f fits; back = subst Back (sym made) (bytes_back f fits) }

@@ -7,5 +7,5 @@ pub returns : goal.returns
 returns c =
     let b = c.book-book.result.now in
     let rising = ap (rises 0) c.book-book.ensures ∙ c.args.self.now.rising in
-    let place = by_timestamp c.args.timestamp c.args.encoding c.args.tag b c.place-of.result rising c.place-of.ensures.before c.place-of.ensures.after in
-    rw (← c.book-book.ensures, place) c.stands-at.ensures
+    let place = by_timestamp c.args.timestamp c.args.encoding c.args.tag b c.place_of.result rising c.place_of.ensures.before c.place_of.ensures.after in
+    rw (← c.book-book.ensures, place) c.stands_at.ensures

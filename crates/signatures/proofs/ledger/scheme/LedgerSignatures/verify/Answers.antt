@@ -6,4 +6,4 @@ pub returns : goal.returns
 returns c =
     let l = c.args.self.now in
     let place = by_tag c.args.timestamp c.args.encoding c.args.tag (ledger_book l) l.counted in
-    rw (place, ← c.as-slice.ensures.value) c.stands-at.ensures
+    rw (place, ← c.as_slice.ensures.value) c.stands_at.ensures
