@@ -26,7 +26,7 @@ pub fn make_call<S: Setting, P: QuorumSystem, K: Signatures>(
     lines: &mut [Line],
     call: Call<S>,
 ) -> Result<Answer<S>, Refusal>
-    ensures steps { Steps kind (state quorums book free cluster.old replicas.old readers.old messages.old lines.old) call (numbered result) (state quorums book free cluster.new replicas.new readers.new messages.new lines.new) }
+    ensures steps { Steps S.kind (state P.quorums K.book K.free cluster.old replicas.old readers.old messages.old lines.old) call (numbered result) (state P.quorums K.book K.free cluster.new replicas.new readers.new messages.new lines.new) }
     ensures holds { MatchResult result (λ _. Kept cluster.old cluster.new) (λ _. Unchanged cluster.old cluster.new replicas.old replicas.new readers.old readers.new messages.old messages.new lines.old lines.new) }
 {
     match call {

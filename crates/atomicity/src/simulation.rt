@@ -47,7 +47,7 @@ fn run_calls<S: Setting, P: QuorumSystem, K: Signatures>(
 )
     requires empty { (answers.old.items ≡ []) × (vec_len answers.old ≡ 0) }
     requires room { length calls.now ≤ vec_capacity answers.old }
-    ensures { Ran kind (state quorums book free cluster.old replicas.old readers.old messages.old lines.old) calls.now (map numbered answers.new.items) (state quorums book free cluster.new replicas.new readers.new messages.new lines.new) }
+    ensures { Ran S.kind (state P.quorums K.book K.free cluster.old replicas.old readers.old messages.old lines.old) calls.now (map numbered answers.new.items) (state P.quorums K.book K.free cluster.new replicas.new readers.new messages.new lines.new) }
 {
     for i in 0..calls.len() {
         let answer = make_call(cluster, replicas, readers, messages, lines, calls[i]);
@@ -70,7 +70,7 @@ pub fn simulate<S: Setting, P: QuorumSystem, K: Signatures>(
     lines: &mut [Line],
     calls: &[Call<S>],
 ) -> Result<Simulation<S, P, K>, Parts<P, K>>
-    ensures { MatchResult result (λ x. Simulated kind (quorums system) faulty.members (made_state kind (quorums system) (book signatures) (free signatures) faulty.members reader_count replicas.old readers.old (sizes_of replicas.old readers.old messages.old lines.old)) calls.now (map numbered x.answers.items) (state quorums book free x.cluster replicas.new readers.new messages.new lines.new)) (λ x. (x.system ≡ system) × (x.signatures ≡ signatures) × (replicas.new ≡ replicas.old) × (readers.new ≡ readers.old) × (messages.new ≡ messages.old) × (lines.new ≡ lines.old)) }
+    ensures { MatchResult result (λ x. Simulated S.kind (P.quorums system) faulty.members (made_state S.kind (P.quorums system) (K.book signatures) (K.free signatures) faulty.members reader_count replicas.old readers.old (sizes_of replicas.old readers.old messages.old lines.old)) calls.now (map numbered x.answers.items) (state P.quorums K.book K.free x.cluster replicas.new readers.new messages.new lines.new)) (λ x. (x.system ≡ system) × (x.signatures ≡ signatures) × (replicas.new ≡ replicas.old) × (readers.new ≡ readers.old) × (messages.new ≡ messages.old) × (lines.new ≡ lines.old)) }
 {
     let Ok(mut answers) = Vec::with_capacity(heap, calls.len()) else {
         return Err(Parts { system, signatures });

@@ -8,7 +8,7 @@ use settings::setting::Setting;
 
 /// For every kind of setting and every quorum system: a cluster made with any arguments keeps its claims along every list of calls.
 pub fn every_run_is_atomic_and_progresses<S: Setting, P: QuorumSystem>() -> u8
-    ensures { (p : P) → Atomic kind (quorums p) }
+    ensures { (p : P) → Atomic S.kind (P.quorums p) }
 {
     0
 }

@@ -32,7 +32,7 @@ fn reader_refusal(readers: &[Reader], id: u32) -> Option<Refusal>
 
 /// A completed read as it is handed out.
 fn hand_out<S: Setting>(reader: u32, completed: Completed) -> CompletedRead<S>
-    ensures { result ≡ handed_out kind reader completed }
+    ensures { result ≡ handed_out S.kind reader completed }
 {
     CompletedRead {
         reader,
@@ -62,7 +62,7 @@ impl<S: Setting, P: QuorumSystem, K: Signatures> Cluster<S, P, K> {
         lines: &mut [Line],
         reader: u32,
     ) -> Result<CompletedRead<S>, Refusal>
-        ensures steps { let of = state quorums book free in collect_step kind (of self.old replicas.old readers.old messages.old lines.old) reader ≡ (numbered result, of self.new replicas.new readers.new messages.new lines.new) }
+        ensures steps { let of = state P.quorums K.book K.free in collect_step S.kind (of self.old replicas.old readers.old messages.old lines.old) reader ≡ (numbered result, of self.new replicas.new readers.new messages.new lines.new) }
         ensures holds { MatchResult result (λ _. Kept self.old self.new × (self.new.signatures ≡ self.old.signatures)) (λ _. Unchanged self.old self.new replicas.old replicas.new readers.old readers.new messages.old messages.new lines.old lines.new) }
     {
         if let Some(refusal) = self.closed(

@@ -27,7 +27,7 @@ impl<S: Setting, P: QuorumSystem, K: Signatures> Cluster<S, P, K> {
         lines: &mut [Line],
         message: usize,
     ) -> Result<(), Refusal>
-        ensures steps { let of = state quorums book free in drop_step (of self.old replicas.old readers.old messages.old lines.old) message ≡ (numbered result, of self.new replicas.new readers.new messages.new lines.new) }
+        ensures steps { let of = state P.quorums K.book K.free in drop_step (of self.old replicas.old readers.old messages.old lines.old) message ≡ (numbered result, of self.new replicas.new readers.new messages.new lines.new) }
         ensures holds { MatchResult result (λ _. Kept self.old self.new × (self.new.signatures ≡ self.old.signatures)) (λ _. Unchanged self.old self.new replicas.old replicas.new readers.old readers.new messages.old messages.new lines.old lines.new) }
     {
         if let Some(refusal) = self.closed(

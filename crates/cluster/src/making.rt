@@ -49,8 +49,8 @@ fn making_refusal<P: QuorumSystem, K: Signatures>(
     reader_count: usize,
     sizes: TableSizes,
 ) -> Option<Refusal>
-    ensures refusal { making_refusal (quorums system.now) (book signatures.now) faulty.members reader_count sizes ≡ option_map number result }
-    ensures fit { IfNone result ((reader_count ≤ 8) × (sizes.replicas ≡ (quorums system.now).size) × (sizes.readers ≡ reader_count)) }
+    ensures refusal { making_refusal (P.quorums system.now) (K.book signatures.now) faulty.members reader_count sizes ≡ option_map number result }
+    ensures fit { IfNone result ((reader_count ≤ 8) × (sizes.replicas ≡ (P.quorums system.now).size) × (sizes.readers ≡ reader_count)) }
 {
     if reader_count < 1 || reader_count > MOST_READERS {
         return Some(Refusal::ReaderCount);
@@ -76,7 +76,7 @@ impl<S: Setting, P: QuorumSystem, K: Signatures> Cluster<S, P, K> {
         reader_count: usize,
         sizes: TableSizes,
     ) -> Option<Refusal>
-        ensures { making_refusal (quorums system.now) (book signatures.now) faulty.members reader_count sizes ≡ option_map number result }
+        ensures { making_refusal (P.quorums system.now) (K.book signatures.now) faulty.members reader_count sizes ≡ option_map number result }
     {
         making_refusal(system, signatures, faulty, reader_count, sizes)
     }
@@ -94,7 +94,7 @@ impl<S: Setting, P: QuorumSystem, K: Signatures> Cluster<S, P, K> {
         messages: &mut [Message<Encoding>],
         lines: &mut [Line],
     ) -> Cluster<S, P, K>
-        ensures made { state quorums book free result replicas.new readers.new messages.new lines.new ≡ made_state kind (quorums system) (book signatures) (free signatures) faulty.members reader_count replicas.old readers.old (sizes_of replicas.old readers.old messages.old lines.old) }
+        ensures made { state P.quorums K.book K.free result replicas.new readers.new messages.new lines.new ≡ made_state S.kind (P.quorums system) (K.book signatures) (K.free signatures) faulty.members reader_count replicas.old readers.old (sizes_of replicas.old readers.old messages.old lines.old) }
         ensures parts { (result.system ≡ system) × (result.signatures ≡ signatures) × (result.faulty ≡ faulty) }
         ensures lists { (messages.new ≡ messages.old) × (lines.new ≡ lines.old) }
     {

@@ -70,7 +70,7 @@ impl<S: Setting, P: QuorumSystem, K: Signatures> Cluster<S, P, K> {
         lines: &mut [Line],
         setting: S,
     ) -> Result<u32, Refusal>
-        ensures steps { (g : ℕ) × (g < 2 ^ 32) × (let of = state quorums book free in write_step kind (of self.old replicas.old readers.old messages.old lines.old) setting g ≡ (numbered result, of self.new replicas.new readers.new messages.new lines.new)) }
+        ensures steps { (g : ℕ) × (g < 2 ^ 32) × (let of = state P.quorums K.book K.free in write_step S.kind (of self.old replicas.old readers.old messages.old lines.old) setting g ≡ (numbered result, of self.new replicas.new readers.new messages.new lines.new)) }
         ensures holds { MatchResult result (λ _. Kept self.old self.new) (λ _. Unchanged self.old self.new replicas.old replicas.new readers.old readers.new messages.old messages.new lines.old lines.new) }
     {
         if let Some(refusal) = self.closed(
@@ -118,7 +118,7 @@ impl<S: Setting, P: QuorumSystem, K: Signatures> Cluster<S, P, K> {
         lines: &mut [Line],
         reader: u32,
     ) -> Result<u32, Refusal>
-        ensures steps { let of = state quorums book free in read_step kind (of self.old replicas.old readers.old messages.old lines.old) reader ≡ (numbered result, of self.new replicas.new readers.new messages.new lines.new) }
+        ensures steps { let of = state P.quorums K.book K.free in read_step S.kind (of self.old replicas.old readers.old messages.old lines.old) reader ≡ (numbered result, of self.new replicas.new readers.new messages.new lines.new) }
         ensures holds { MatchResult result (λ _. Kept self.old self.new × (self.new.signatures ≡ self.old.signatures)) (λ _. Unchanged self.old self.new replicas.old replicas.new readers.old readers.new messages.old messages.new lines.old lines.new) }
     {
         if let Some(refusal) = self.closed(

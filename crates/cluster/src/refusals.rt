@@ -173,8 +173,8 @@ impl<S: Setting, P: QuorumSystem, K: Signatures> Cluster<S, P, K> {
         messages: usize,
         lines: usize,
     ) -> Option<Refusal>
-        ensures refusal { first_refusal ((self.now.shut, 8) ∷ (not (sizes_kept quorums self.now replicas readers messages lines), 5) ∷ []) ≡ option_map number result }
-        ensures sized { IfNone result (Sized quorums self.now replicas readers messages lines) }
+        ensures refusal { first_refusal ((self.now.shut, 8) ∷ (not (sizes_kept P.quorums self.now replicas readers messages lines), 5) ∷ []) ≡ option_map number result }
+        ensures sized { IfNone result (Sized P.quorums self.now replicas readers messages lines) }
     {
         let sized = replicas == self.system.replicas() as usize
             && readers == self.reader_places

@@ -34,7 +34,7 @@ impl<S: Setting, P: QuorumSystem, K: Signatures> Cluster<S, P, K> {
         requires known { id ≤ length readers.old }
         requires messages { length messages.old ≡ self.old.message_places }
         requires lines { length lines.old ≡ self.old.line_places }
-        ensures steps { let of = state quorums book free in hear kind (of self.old replicas.now readers.old messages.old lines.old) id message ≡ (numbered result, of self.new replicas.now readers.new messages.new lines.new) }
+        ensures steps { let of = state P.quorums K.book K.free in hear S.kind (of self.old replicas.now readers.old messages.old lines.old) id message ≡ (numbered result, of self.new replicas.now readers.new messages.new lines.new) }
         ensures holds { MatchResult result (λ _. Kept self.old self.new × (self.new.signatures ≡ self.old.signatures)) (λ _. Unchanged self.old self.new replicas.now replicas.now readers.old readers.new messages.old messages.new lines.old lines.new) }
     {
         let before = client_at(self.writer, readers, id);
@@ -83,7 +83,7 @@ impl<S: Setting, P: QuorumSystem, K: Signatures> Cluster<S, P, K> {
         lines: &mut [Line],
         message: usize,
     ) -> Result<Reply, Refusal>
-        ensures steps { let of = state quorums book free in reply_step kind (of self.old replicas.old readers.old messages.old lines.old) message ≡ (numbered result, of self.new replicas.new readers.new messages.new lines.new) }
+        ensures steps { let of = state P.quorums K.book K.free in reply_step S.kind (of self.old replicas.old readers.old messages.old lines.old) message ≡ (numbered result, of self.new replicas.new readers.new messages.new lines.new) }
         ensures holds { MatchResult result (λ _. Kept self.old self.new × (self.new.signatures ≡ self.old.signatures)) (λ _. Unchanged self.old self.new replicas.old replicas.new readers.old readers.new messages.old messages.new lines.old lines.new) }
     {
         if let Some(refusal) = self.closed(
@@ -123,7 +123,7 @@ impl<S: Setting, P: QuorumSystem, K: Signatures> Cluster<S, P, K> {
         lines: &mut [Line],
         message: Message<S>,
     ) -> Result<Reply, Refusal>
-        ensures steps { let of = state quorums book free in forge_step kind (of self.old replicas.old readers.old messages.old lines.old) message ≡ (numbered result, of self.new replicas.new readers.new messages.new lines.new) }
+        ensures steps { let of = state P.quorums K.book K.free in forge_step S.kind (of self.old replicas.old readers.old messages.old lines.old) message ≡ (numbered result, of self.new replicas.new readers.new messages.new lines.new) }
         ensures holds { MatchResult result (λ _. Kept self.old self.new × (self.new.signatures ≡ self.old.signatures)) (λ _. Unchanged self.old self.new replicas.old replicas.new readers.old readers.new messages.old messages.new lines.old lines.new) }
     {
         if let Some(refusal) = self.closed(

@@ -32,7 +32,7 @@ impl<S: Setting, P: QuorumSystem, K: Signatures> Cluster<S, P, K> {
         message: usize,
         replica: u32,
     ) -> Result<Delivery, Refusal>
-        ensures steps { let of = state quorums book free in request_step kind (of self.old replicas.old readers.old messages.old lines.old) message replica ≡ (numbered result, of self.new replicas.new readers.new messages.new lines.new) }
+        ensures steps { let of = state P.quorums K.book K.free in request_step S.kind (of self.old replicas.old readers.old messages.old lines.old) message replica ≡ (numbered result, of self.new replicas.new readers.new messages.new lines.new) }
         ensures holds { MatchResult result (λ _. Kept self.old self.new × (self.new.signatures ≡ self.old.signatures)) (λ _. Unchanged self.old self.new replicas.old replicas.new readers.old readers.new messages.old messages.new lines.old lines.new) }
     {
         if let Some(refusal) = self.closed(

@@ -29,7 +29,7 @@ pub fn are_met<S: Setting>(bytes: Encoding) -> bool
 
 /// How many bytes a setting's encoding has.
 pub fn encoded_len<S: Setting>(_setting: S) -> usize
-    ensures { result ≡ length (octets (kind.encode _setting)) }
+    ensures { result ≡ length (octets (S.kind.encode _setting)) }
 {
     32
 }

@@ -56,7 +56,7 @@ impl Phase {
 
 /// A client that is idle, with nothing heard and the initial version as its best, after `op` operations.
 pub fn fresh_client<S: Setting>(op: u32) -> Client
-    ensures { result ≡ fresh_client kind op }
+    ensures { result ≡ fresh_client S.kind op }
 {
     Client {
         phase: Phase::Idle,
@@ -68,7 +68,7 @@ pub fn fresh_client<S: Setting>(op: u32) -> Client
 
 /// A reader that begins the read `op`.
 pub fn querying_client<S: Setting>(op: u32) -> Client
-    ensures { result ≡ begin_query kind op }
+    ensures { result ≡ begin_query S.kind op }
 {
     Client {
         phase: Phase::Querying,
@@ -80,7 +80,7 @@ pub fn querying_client<S: Setting>(op: u32) -> Client
 
 /// The writer as it begins the write `op`; only a read has a best version.
 pub fn storing_client<S: Setting>(op: u32) -> Client
-    ensures { result ≡ begin_store kind op }
+    ensures { result ≡ begin_store S.kind op }
 {
     Client {
         phase: Phase::Storing,
@@ -105,7 +105,7 @@ impl Client {
         replica: u32,
         version: Version<Encoding>,
     ) -> Reply
-        ensures { value_heard (quorums system.now).quorum self.old replica version ≡ (result, self.new) }
+        ensures { value_heard (P.quorums system.now).quorum self.old replica version ≡ (result, self.new) }
     {
         self.best = newer_version(self.best, version);
         let answered = self.heard.with(replica);
@@ -121,7 +121,7 @@ impl Client {
 
     /// Counts a replica's acknowledgement; where the replicas heard are a quorum, the operation is finished.
     fn hear_ack<S: Setting, P: QuorumSystem>(&mut self, system: &P, replica: u32) -> Reply
-        ensures { ack_heard kind (quorums system.now).quorum self.old replica ≡ (result, self.new) }
+        ensures { ack_heard S.kind (P.quorums system.now).quorum self.old replica ≡ (result, self.new) }
     {
         let acknowledged = self.heard.with(replica);
         if system.is_quorum(acknowledged) {
@@ -143,7 +143,7 @@ impl Client {
         signatures: &K,
         message: Message<S>,
     ) -> Reply
-        ensures { react kind (quorums system.now).quorum (book signatures.now) self.old message ≡ (result, self.new) }
+        ensures { react S.kind (P.quorums system.now).quorum (K.book signatures.now) self.old message ≡ (result, self.new) }
     {
         match (self.phase, message) {
             (

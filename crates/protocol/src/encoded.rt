@@ -10,7 +10,7 @@ use settings::setting::Setting;
 
 /// The version with its setting's bytes.
 pub fn encode_version<S: Setting>(version: Version<S>) -> Version<Encoding>
-    ensures { result ≡ with_value kind.encode version }
+    ensures { result ≡ with_value S.kind.encode version }
 {
     Version {
         timestamp: version.timestamp,
@@ -21,7 +21,7 @@ pub fn encode_version<S: Setting>(version: Version<S>) -> Version<Encoding>
 
 /// The version with the setting that its bytes are decoded to.
 pub fn decode_version<S: Setting>(version: Version<Encoding>) -> Version<S>
-    ensures { result ≡ with_value kind.decode version }
+    ensures { result ≡ with_value S.kind.decode version }
 {
     Version {
         timestamp: version.timestamp,
@@ -32,7 +32,7 @@ pub fn decode_version<S: Setting>(version: Version<Encoding>) -> Version<S>
 
 /// The message with its setting's bytes.
 pub fn encode_message<S: Setting>(message: Message<S>) -> Message<Encoding>
-    ensures { result ≡ each_value kind.encode message }
+    ensures { result ≡ each_value S.kind.encode message }
 {
     match message {
         Message::Query { client, op } => Message::Query { client, op },
@@ -70,7 +70,7 @@ pub fn encode_message<S: Setting>(message: Message<S>) -> Message<Encoding>
 
 /// The message with the setting that its bytes are decoded to.
 pub fn decode_message<S: Setting>(row: Message<Encoding>) -> Message<S>
-    ensures { result ≡ each_value kind.decode row }
+    ensures { result ≡ each_value S.kind.decode row }
 {
     match row {
         Message::Query { client, op } => Message::Query { client, op },

@@ -30,8 +30,8 @@ pub fn replica_step<S: Setting, K: Signatures>(
     kept: &mut Version<Encoding>,
     message: Message<S>,
 ) -> Option<Message<S>>
-    ensures answer { result ≡ answer kind (book signatures.now) replica kept.old message }
-    ensures kept { kept.new ≡ keep kind (book signatures.now) kept.old message }
+    ensures answer { result ≡ answer S.kind (K.book signatures.now) replica kept.old message }
+    ensures kept { kept.new ≡ keep S.kind (K.book signatures.now) kept.old message }
 {
     match message {
         Message::Query { client, op } => Some(Message::Value {

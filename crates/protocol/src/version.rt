@@ -16,7 +16,7 @@ pub struct Version<V> {
 
 /// What holds before any write: the initial setting under timestamp 0.
 pub fn initial_version<S: Setting>() -> Version<S>
-    ensures { result ≡ initial_version kind }
+    ensures { result ≡ initial_version S.kind }
 {
     Version {
         timestamp: 0,
@@ -27,7 +27,7 @@ pub fn initial_version<S: Setting>() -> Version<S>
 
 /// Whether the version is the initial one or was signed.
 pub fn is_genuine<S: Setting, K: Signatures>(signatures: &K, version: Version<S>) -> bool
-    ensures { result ≡ genuine kind (book signatures.now) version }
+    ensures { result ≡ genuine S.kind (K.book signatures.now) version }
 {
     let encoding = version.value.encode();
     if version.timestamp == 0 && version.tag == 0 && same(encoding, S::initial().encode()) {

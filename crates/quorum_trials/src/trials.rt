@@ -7,8 +7,8 @@ use replica_sets::replica_set::ReplicaSet;
 
 /// Whether the members may be faulty together and the other replicas are a quorum: so for every fault set.
 pub fn survives<P: QuorumSystem>(system: &P, faulty: ReplicaSet) -> bool
-    ensures answer { result ≡ survived (quorums system.now) faulty.members }
-    ensures each_fault_set { result ≡ (quorums system.now).fault faulty.members }
+    ensures answer { result ≡ survived (P.quorums system.now) faulty.members }
+    ensures each_fault_set { result ≡ (P.quorums system.now).fault faulty.members }
 {
     system.is_fault_set(faulty) && system.is_quorum(faulty.outside(system.replicas()))
 }
@@ -20,8 +20,8 @@ pub fn share_correct<P: QuorumSystem>(
     second: ReplicaSet,
     faulty: ReplicaSet,
 ) -> bool
-    ensures answer { result ≡ on_trial (quorums system.now) first.members second.members faulty.members }
-    ensures shared { result ≡ true → Share (quorums system.now) first.members second.members faulty.members }
+    ensures answer { result ≡ on_trial (P.quorums system.now) first.members second.members faulty.members }
+    ensures shared { result ≡ true → Share (P.quorums system.now) first.members second.members faulty.members }
 {
     are_on_trial(system, first, second, faulty)
         && !first.intersection(second).difference(faulty).is_empty()
@@ -34,7 +34,7 @@ fn are_on_trial<P: QuorumSystem>(
     second: ReplicaSet,
     faulty: ReplicaSet,
 ) -> bool
-    ensures { result ≡ on_trial (quorums system.now) first.members second.members faulty.members }
+    ensures { result ≡ on_trial (P.quorums system.now) first.members second.members faulty.members }
 {
     system.is_quorum(first) && system.is_quorum(second) && system.is_fault_set(faulty)
 }

@@ -6,7 +6,7 @@ use Rattle.alignment.proofs.bands.is_in.Goals as goal
 
 pub returns-then-band-lt-BANDS : goal.returns-then-band-lt-BANDS
 unfolding has
-returns-then-band-lt-BANDS c = c.is-set.ensures
+returns-then-band-lt-BANDS c = c.is_set.ensures
 
 pub returns-else-band-lt-BANDS : goal.returns-else-band-lt-BANDS
 returns-else-band-lt-BANDS c =

@@ -7,10 +7,10 @@ returns g c =
     let a = c.args.self.now.bands in
     let k = c.args.band in
     let b = c.with_band-self.result in
-    let free = c.in-default.ensures.free in
+    let free = c.in_default.ensures.free in
     let each = one_more a b k c.with_band-self.ensures in
     record {
-      answer = c.in-default.ensures.refusal;
+      answer = c.in_default.ensures.refusal;
       accepted = each;
       counted = one_counted 64 a b k each free.1 free.0;
       refused = tt;

@@ -9,15 +9,15 @@ returns-in-Some g c = record { steps = collect_shut _ _ _ _ c.in-Some.ensures.re
 
 pub returns-in-Some-reader_refusal : goal.returns-in-Some-reader_refusal
 returns-in-Some-reader_refusal g c =
-    record { steps = collect_refused _ _ _ c.in-default.ensures.refusal _ c.in-Some-reader_refusal.ensures.refusal; holds = search rules }
+    record { steps = collect_refused _ _ _ c.in_default.ensures.refusal _ c.in-Some-reader_refusal.ensures.refusal; holds = search rules }
 
-pub returns-in-default-completed : goal.returns-in-default-completed
-returns-in-default-completed g c =
-    record { steps = collect_none _ _ _ c.in-default.ensures.refusal c.in-default-reader_refusal.ensures.refusal _ c.reader_at-row.ensures c.in-default-completed.is; holds = search rules }
+pub returns-in_default-completed : goal.returns-in_default-completed
+returns-in_default-completed g c =
+    record { steps = collect_none _ _ _ c.in_default.ensures.refusal c.in_default-reader_refusal.ensures.refusal _ c.reader_at-row.ensures c.in_default-completed.is; holds = search rules }
 
 pub returns : goal.returns
 returns g c = record {
-  steps = collect_so _ _ _ c.in-default.ensures.refusal c.in-default-reader_refusal.ensures.refusal _ c.reader_at-row.ensures _ _ _ _
+  steps = collect_so _ _ _ c.in_default.ensures.refusal c.in_default-reader_refusal.ensures.refusal _ c.reader_at-row.ensures _ _ _ _
       c.in-Some-completed.is c.hand_out.ensures
       (sizes_stay g.P.QuorumSystem.quorums c.args.self.now (length c.args.replicas.now) (simp length-set) refl refl) c.emptied.ensures;
   holds = search rules;

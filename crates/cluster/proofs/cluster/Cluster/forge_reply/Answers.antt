@@ -7,10 +7,10 @@ returns-in-Some g c = record { steps = forge_shut _ _ _ _ c.in-Some.ensures.refu
 
 pub returns-in-Some-forge_refusal : goal.returns-in-Some-forge_refusal
 returns-in-Some-forge_refusal g c =
-    record { steps = forge_refused _ _ _ _ c.replicas.ensures c.in-default.ensures.refusal _ c.in-Some-forge_refusal.ensures; holds = search rules }
+    record { steps = forge_refused _ _ _ _ c.replicas.ensures c.in_default.ensures.refusal _ c.in-Some-forge_refusal.ensures; holds = search rules }
 
 pub returns : goal.returns
 returns g c = record {
-  steps = forge_so _ _ _ _ c.replicas.ensures c.in-default.ensures.refusal _ c.in-default-forge_refusal.ensures c.client.ensures ∙ c.hear.ensures.steps;
+  steps = forge_so _ _ _ _ c.replicas.ensures c.in_default.ensures.refusal _ c.in_default-forge_refusal.ensures c.client.ensures ∙ c.hear.ensures.steps;
   holds = c.hear.ensures.holds;
 }

@@ -24,13 +24,13 @@ returns-in-Some g c =
       holds = record { cluster = with_signatures c.args.self.now c.args.self.now.signatures _ _ _ refl; replicas = refl; readers = refl; messages = refl; lines = refl };
     }
 
-pub returns-in-default : goal.returns-in-default
-returns-in-default g c =
+pub returns-in_default : goal.returns-in_default
+returns-in_default g c =
     let messages_fit : c.args.self.now.message_count ≤ length c.args.messages.now = omega (arith, c.requires.messages, c.args.self.now.messages_fit) in
     let s = state g.P.QuorumSystem.quorums g.K.Signatures.book g.K.Signatures.free c.args.self.now c.args.replicas.now c.args.readers.now c.args.messages.now c.args.lines.now in
     record {
       steps = turned_so g.S.Setting.kind s c.args.id c.args.message _ _ c.client_at-before.ensures _ _ _ (sizes_stay g.P.QuorumSystem.quorums c.args.self.now (length c.args.replicas.now) c.put_client-in-Turned.auto.readers c.append_row.auto.rows refl)
-          c.put_client-in-Turned.ensures.writer _ _ _ c.in-Turned.ensures (length-take-le c.args.self.now.message_count c.args.messages.now messages_fit) c.in-default.ensures c.put_client-in-Turned.ensures.readers c.write_back.ensures c.append_row.ensures;
+          c.put_client-in-Turned.ensures.writer _ _ _ c.in-Turned.ensures (length-take-le c.args.self.now.message_count c.args.messages.now messages_fit) c.in_default.ensures c.put_client-in-Turned.ensures.readers c.write_back.ensures c.append_row.ensures;
       holds = search rules;
     }
 
@@ -43,13 +43,13 @@ returns-in-Some-room_refusal g c =
       holds = record { cluster = with_signatures c.args.self.now c.args.self.now.signatures _ _ _ refl; replicas = refl; readers = refl; messages = refl; lines = refl };
     }
 
-pub returns-in-default-room_refusal : goal.returns-in-default-room_refusal
-returns-in-default-room_refusal g c =
+pub returns-in_default-room_refusal : goal.returns-in_default-room_refusal
+returns-in_default-room_refusal g c =
     let lines_fit : c.args.self.now.line_count ≤ length c.args.lines.now = omega (arith, c.requires.lines, c.args.self.now.lines_fit) in
     let s = state g.P.QuorumSystem.quorums g.K.Signatures.book g.K.Signatures.free c.args.self.now c.args.replicas.now c.args.readers.now c.args.messages.now c.args.lines.now in
     record {
       steps = finished_so g.S.Setting.kind s c.args.id c.args.message _ _ c.client_at-before.ensures _ _ _ (sizes_stay g.P.QuorumSystem.quorums c.args.self.now (length c.args.replicas.now) c.finish_client.auto.readers refl c.append_row-in-Finished.auto.rows)
-          c.finish_client.ensures.writer _ _ _ c.in-Finished.ensures (length-take-le c.args.self.now.line_count c.args.lines.now lines_fit) c.in-default-room_refusal.ensures c.finish_client.ensures.readers c.end_line.ensures
+          c.finish_client.ensures.writer _ _ _ c.in-Finished.ensures (length-take-le c.args.self.now.line_count c.args.lines.now lines_fit) c.in_default-room_refusal.ensures c.finish_client.ensures.readers c.end_line.ensures
           c.append_row-in-Finished.ensures;
       holds = search rules;
     }

@@ -6,9 +6,9 @@ use Rattle.fail_prone.specs.Listed.{hold, listed_check, listed_system}
 use Rattle.fail_prone.specs.Accepted.{one_replica}
 use Rattle.fail_prone.proofs.fail_prone.FailProne.new.Goals as goal
 
-pub invariant-of-result : goal.invariant-of-result
+pub invariant_of-result : goal.invariant_of-result
 unfolding hold
-invariant-of-result c = (lit≤ tt, (refl, tt))
+invariant_of-result c = record { few = lit≤ tt; ok = refl }
 
 pub returns-in-Some : goal.returns-in-Some
 returns-in-Some c =
