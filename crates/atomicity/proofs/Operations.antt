@@ -36,7 +36,7 @@ use Rattle.atomicity.proofs.Order.{Item, push, place}
 use Rattle.atomicity.proofs.Trace.{Done, of, then_event, length_then, at_keep, at_new, Tracked, tracked_plain, tracked_begin, tracked_finish}
 use Rattle.atomicity.proofs.Linearization.{Ordered, ordered_plain, ordered_write, ordered_finish_write, ordered_finish_read}
 use Rattle.atomicity.proofs.Protocol as protocol
-use Rattle.atomicity.proofs.Protocol.{Party, Invariant, also}
+use Rattle.atomicity.proofs.Protocol.{Party, Invariant, Also}
 use Rattle.atomicity.proofs.Moves.{seen, row, hears, better, put, put_send, after_answer, without, finished, genuine_row, Coded, again, Handed, Cases, move}
 use Rattle.atomicity.proofs.Book.{genuine_grow, genuine_new, genuine_cases, newest_new}
 use Rattle.atomicity.proofs.Tables.{seen_put, seen_sent, seen_finished, seen_querying, seen_writing, seen_collected, seen_reader, writer_kept, done_with, row_put, party, stored, parties, stored_writer, stored_reader, parties_put}
@@ -98,7 +98,7 @@ module _ {S : Type 0} (k : Kind S) where
     bottom = initial_row k
 
     abbrev WithM : Message Bytes → Message Bytes → Type 0
-    WithM m = also system ql s.fixed.faulty fl bottom InFlight m
+    WithM m = Also system ql s.fixed.faulty fl bottom InFlight m
 
     -- what is in flight is decoded and encoded to itself
     pub flights : (m : Message Bytes) → Member m s.messages → again k m ≡ m
