@@ -27,8 +27,8 @@ struct Store {
 
 fn refused(refusal: Refusal) -> anyhow::Error {
     match refusal {
-        Refusal::Shut => "the cluster is shut".into(),
-        _ => "a call was refused".into(),
+        Refusal::Shut => anyhow!("the cluster is shut"),
+        _ => anyhow!("a call was refused"),
     }
 }
 
