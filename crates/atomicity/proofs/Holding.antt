@@ -1,5 +1,5 @@
 -- What a reader is handed is what its last read gave: beside a run that grows. Assumes nothing.
-use Rattle.std.proofs.Common.{◌≡◌, ℕ, ◌<◌, ◌⊎◌, List, length, Some, None, Option, sym, ap, ◌∙◌, ⊎_elim, arith}
+use Rattle.std.proofs.Common.{◌≡◌, ℕ, ◌<◌, List, length, Some, None, Option, sym, ap, ◌∙◌, ⊎_elim, arith}
 use Rattle.std.specs.Option.{option_map}
 use Rattle.cluster.specs.declared.completed_read.CompletedRead.{CompletedRead}
 use Rattle.atomicity.specs.Marks.{Summary, at, finishes, gives, collects, collector}

@@ -1,5 +1,5 @@
 -- The delivery of a request to a replica. Assumes nothing.
-use Rattle.std.proofs.Common.{◌≡◌, ℕ, Bool, true, false, cond, leb, List, [], ◌∷◌, ◌++◌, length, get_or, set, Some, None, Ok, Err, Option, sym, refl, ap, ◌∙◌, ap₂}
+use Rattle.std.proofs.Common.{◌≡◌, ℕ, true, false, cond, leb, List, [], ◌∷◌, ◌++◌, length, get_or, set, Some, None, Ok, Err, sym, refl, ap, ◌∙◌, ap₂}
 use Rattle.encodings.specs.Encodings.{Bytes}
 use Rattle.settings.specs.Kinds.{Kind}
 use Rattle.replica_sets.specs.Sets.{has}
@@ -9,7 +9,7 @@ use Rattle.protocol.specs.declared.version.Version.{Version}
 use Rattle.protocol.specs.declared.message.Message.{Message}
 use Rattle.cluster.specs.Refusals.{Check, first_refusal}
 use Rattle.cluster.specs.State.{State, Fixed}
-use Rattle.cluster.specs.Steps.{Outcome, closed, message_at, no_version, in_flight_full, answered, answering, request_step}
+use Rattle.cluster.specs.Steps.{Outcome, closed, message_at, no_version, answered, answering, request_step}
 use Rattle.cluster.specs.declared.delivery.Delivery.{Delivery}
 use Rattle.cluster.specs.declared.delivery.Delivery.TheVariants.{Answered, Unanswered}
 use Rattle.cluster.proofs.Outcomes.{shut_out, turned_away, let_in, refused, accepted, outcome}

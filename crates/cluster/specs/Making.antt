@@ -1,5 +1,5 @@
 -- A cluster as it is made. Assumes nothing.
-use Rattle.std.specs.Prelude.{ℕ, Bool, true, false, cond, not, ◌&&◌, List, [], ◌∷◌, length, replicate, Some, None, Option, ◌==◌, nat_le}
+use Rattle.std.specs.Prelude.{ℕ, Bool, true, false, not, ◌&&◌, List, [], ◌∷◌, length, replicate, Some, None, Option, ◌==◌, nat_le}
 use Rattle.encodings.specs.Encodings.{Bytes}
 use Rattle.settings.specs.Kinds.{Kind}
 use Rattle.quorums.specs.Systems.{Quorums}
@@ -7,7 +7,7 @@ use Rattle.signatures.specs.declared.entry.Entry.{Entry}
 use Rattle.protocol.specs.Clients.{fresh_client, initial_row}
 use Rattle.protocol.specs.declared.version.Version.{Version}
 use Rattle.protocol.specs.declared.message.Message.{Message}
-use Rattle.cluster.specs.Refusals.{Check, first_refusal}
+use Rattle.cluster.specs.Refusals.{first_refusal}
 use Rattle.cluster.specs.State.{State}
 use Rattle.cluster.specs.declared.journal.Line.{Line}
 use Rattle.cluster.specs.declared.reader.Reader.{Reader}

@@ -1,5 +1,5 @@
 -- What an operation that may begin finds. Assumes nothing.
-use Rattle.std.specs.Prelude.{ℕ, ◌+◌, ◌<◌, ◌≤◌}
+use Rattle.std.specs.Prelude.{ℕ, ◌<◌, ◌≤◌}
 use Rattle.protocol.specs.declared.client.Client.{Client}
 
 -- a number for the operation, a place for its message, and two lines

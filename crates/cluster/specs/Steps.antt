@@ -1,12 +1,11 @@
 -- What each call does: its answer, and the state after. Assumes nothing.
-use Rattle.std.specs.Prelude.{ℕ, ◌+◌, ◌-◌, Bool, true, false, cond, not, ◌&&◌, ◌||◌, List, [], ◌∷◌, ◌++◌, length, get_or, Some, None, Ok, Err, Option, Result, ◌==◌, nat_le, nat_lt, slice_index_or, slice_set}
+use Rattle.std.specs.Prelude.{ℕ, ◌+◌, ◌-◌, Bool, cond, not, ◌||◌, List, [], ◌∷◌, ◌++◌, length, get_or, Some, None, Ok, Err, Option, Result, ◌==◌, nat_le, nat_lt, slice_index_or, slice_set}
 use Rattle.std.specs.List.{remove}
 use Rattle.encodings.specs.Encodings.{Bytes, no_bytes}
 use Rattle.settings.specs.Kinds.{Kind}
 use Rattle.replica_sets.specs.Sets.{has}
 use Rattle.signatures.specs.Books.{entry, can_sign}
-use Rattle.signatures.specs.declared.entry.Entry.{Entry}
-use Rattle.protocol.specs.Versions.{version, with_value}
+use Rattle.protocol.specs.Versions.{version}
 use Rattle.protocol.specs.Messages.{is_reply, replica_of, client_of, each_value}
 use Rattle.protocol.specs.Replicas.{answer, keep}
 use Rattle.protocol.specs.Clients.{client, is_idle, react, begin_query, begin_store}

@@ -1,5 +1,5 @@
 -- What a replica does with a message. Assumes nothing.
-use Rattle.std.specs.Prelude.{ℕ, Bool, cond, List, Some, None, Option, nat_lt}
+use Rattle.std.specs.Prelude.{ℕ, cond, List, Some, None, Option, nat_lt}
 use Rattle.encodings.specs.Encodings.{Bytes}
 use Rattle.settings.specs.Kinds.{Kind}
 use Rattle.signatures.specs.declared.entry.Entry.{Entry}

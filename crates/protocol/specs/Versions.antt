@@ -1,6 +1,6 @@
 -- Versions: settings with their timestamps and tags. Assumes nothing.
 use Rattle.std.specs.Prelude.{ℕ, Bool, ◌&&◌, ◌||◌, List, ◌==◌}
-use Rattle.encodings.specs.Encodings.{Bytes, same_bytes}
+use Rattle.encodings.specs.Encodings.{same_bytes}
 use Rattle.settings.specs.Kinds.{Kind}
 use Rattle.signatures.specs.Books.{signed}
 use Rattle.signatures.specs.declared.entry.Entry.{Entry}

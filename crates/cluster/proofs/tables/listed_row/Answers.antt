@@ -1,4 +1,4 @@
-use Rattle.std.proofs.Common.{◌<◌, ◌≤◌, ⊎_elim, arith}
+use Rattle.std.proofs.Common.{⊎_elim, arith}
 use Rattle.cluster.proofs.Lists.{front_row, front_past}
 use Rattle.cluster.proofs.tables.listed_row.Goals as goal
 

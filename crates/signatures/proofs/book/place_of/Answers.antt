@@ -1,4 +1,4 @@
-use Rattle.std.proofs.Common.{◌≡◌, ℕ, ◌+◌, ◌-◌, ◌/◌, ◌<◌, ◌≤◌, length, get_or, sym, ap, ◌∙◌, arith}
+use Rattle.std.proofs.Common.{◌+◌, ◌-◌, ◌/◌, ap, arith}
 use Rattle.signatures.specs.declared.entry.Entry.{Entry}
 use Rattle.signatures.proofs.Rising.{rises_from}
 use Rattle.signatures.proofs.book.place_of.Goals as goal

@@ -1,9 +1,6 @@
-use Rattle.std.proofs.Common.{◌≡◌, List, [], ◌∷◌, take, drop, sym, refl, ap, ◌∙◌, arith}
 use Rattle.std.proofs.lemmas.List.{drop_more, drop_all}
 use Rattle.std.proofs.lemmas.Bool.{le-ltb}
-use Rattle.signatures.specs.Books.{signed}
 use Rattle.signatures.specs.Orders.{no_entry}
-use Rattle.signatures.specs.declared.entry.Entry.{Entry}
 use Rattle.signatures.proofs.book.stands_at.Goals as goal
 
 pub returns-then-place-book : goal.returns-then-place-book

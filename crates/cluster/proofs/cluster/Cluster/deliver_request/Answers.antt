@@ -1,4 +1,4 @@
-use Rattle.std.proofs.Common.{◌≤◌, length, get_or, sym, ap, ◌∙◌, ap₂, arith, rules}
+use Rattle.std.proofs.Common.{◌≤◌, length, sym, ◌∙◌, arith, rules}
 use Rattle.std.proofs.lemmas.List.{length-set, length-take-le}
 use Rattle.cluster.specs.State.{state}
 use Rattle.cluster.proofs.Requesting.{request_shut, request_refused, request_faulty, request_silent, request_full, request_so}
