@@ -98,6 +98,7 @@ fn examples(rt: HostRuntime) -> Result<(), Fail> {
         return Err(Fail::new("refused text"));
     };
     assert!(rt; mark.encode() == *b"QC-417/b\0\0\0\0\0\0\0\0\0\0\0\0\0\0\0\0\0\0\0\0\0\0\0\0");
-    assert!(rt; format!(in rt.alloc(); "{mark}")? == "QC-417/b");
+    let shown = format!(in rt.alloc(); "{mark}")?;
+    assert!(rt; shown.as_str() == "QC-417/b");
     Ok(())
 }
