@@ -1,6 +1,6 @@
 -- A run that grows by a call. Assumes nothing.
 use Rattle.std.proofs.Common.{◌≡◌, ℕ, ◌+◌, ◌^◌, ◌<◌, ◌≤◌, List, [], ◌∷◌, ◌++◌, map, length, get_or, take, Result, sym, refl, ap, ◌∙◌, subst, ap₂, take_all}
-use Rattle.std.specs.List.{AllByRecursion as All}
+use Rattle.std.specs.List.{AllByRecursion}
 use Rattle.std.proofs.lemmas.List.{take_more, map-append}
 use Rattle.settings.specs.Kinds.{Kind}
 use Rattle.cluster.specs.State.{State}
@@ -11,7 +11,7 @@ use Rattle.atomicity.specs.declared.answer.Answer.{Answer}
 use Rattle.atomicity.specs.Runs.{Event, step, event, trace}
 use Rattle.atomicity.specs.Simulations.{Steps, Ran, final}
 
-all_push : {A : Type 0} (P : A → Type 0) (xs : List A) (x : A) → All P xs → P x → All P (xs ++ (x ∷ []))
+all_push : {A : Type 0} (P : A → Type 0) (xs : List A) (x : A) → AllByRecursion P xs → P x → AllByRecursion P (xs ++ (x ∷ []))
 all_push P [] x h p = (p, tt)
 all_push P (y ∷ ys) x h p = (h.0, all_push P ys x h.1 p)
 

@@ -1,6 +1,6 @@
 -- What running a list of calls promises. Assumes nothing.
 use Rattle.std.specs.Prelude.{◌≡◌, ℕ, ◌^◌, ◌<◌, List, [], ◌∷◌, map, Result}
-use Rattle.std.specs.List.{AllByRecursion as All}
+use Rattle.std.specs.List.{AllByRecursion}
 use Rattle.settings.specs.Kinds.{Kind}
 use Rattle.quorums.specs.Systems.{Quorums}
 use Rattle.cluster.specs.State.{State}
@@ -26,7 +26,7 @@ module _ {S : Type 0} (k : Kind S) where
   pub record Ran (s : State) (calls : List (Call S)) (answers : List (Result (Answer S) ℕ)) (t : State) : Type 0 where
     pub tagged : List (Call S × ℕ)
     pub called : map (λ c. c.0) tagged ≡ calls
-    pub narrow : All (λ c. c.1 < 2 ^ 32) tagged
+    pub narrow : AllByRecursion (λ c. c.1 < 2 ^ 32) tagged
     pub answered : map (λ e. e.answer) (trace k s tagged) ≡ answers
     pub ended : final s tagged ≡ t
 

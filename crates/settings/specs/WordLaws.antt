@@ -2,7 +2,7 @@
 use Rattle.std.specs.Prelude.{◌≡◌, ℕ, zero, suc, ◌+◌, ◌*◌, ◌/◌, ◌%◌, ◌<◌, ◌≤◌, true, List, [], ◌∷◌, ◌++◌, length, replicate, nat_lt, slice_index, refl}
 use Rattle.std.proofs.Common.{sym, ◌∙◌, ap, arith, ltb-true, lt-ltb}
 use Rattle.std.proofs.Math.Nat.{div-div-eq-div-mul}
-use Rattle.std.specs.List.{AllByRecursion as All}
+use Rattle.std.specs.List.{AllByRecursion}
 use Rattle.std.proofs.lemmas.Bool.{and_parts, and_from}
 use Rattle.settings.specs.Words.{word, words, encode_word, encode_words, put_word, all_bytes}
 
@@ -58,7 +58,7 @@ pub all_bytes_encoded : (ws : List ℕ) → all_bytes (encode_words ws) ≡ true
 all_bytes_encoded [] = refl
 all_bytes_encoded (w ∷ ws) = all_encoded w (encode_words ws) (all_bytes_encoded ws)
 
-pub words_encoded : (ws : List ℕ) → All (λ w. w < 4294967296) ws → words (encode_words ws) ≡ ws
+pub words_encoded : (ws : List ℕ) → AllByRecursion (λ w. w < 4294967296) ws → words (encode_words ws) ≡ ws
 words_encoded [] h = refl
 words_encoded (w ∷ ws) h = ap (λ n. n ∷ words (encode_words ws)) (word_encoded w h.0) ∙ ap (λ (r : List ℕ). w ∷ r) (words_encoded ws h.1)
 
