@@ -1,5 +1,5 @@
 // What every kind of setting keeps, as code that is generic over them.
-ghost use Rattle.std.specs.Prelude.{◌≡◌, true, length};
+ghost use Rattle.std.specs.Prelude.{◌≡◌, true, false, length};
 ghost use Rattle.encodings.specs.Encodings.{octets};
 
 use encodings::encoding::{Encoding, same};
@@ -7,7 +7,9 @@ use settings::setting::Setting;
 
 /// Whether a setting's encoding passes the test, and is decoded to a setting with that encoding: so for every setting.
 pub fn is_restored<S: Setting>(setting: S) -> bool
-    ensures { result ≡ true }
+    ensures told { result ≡ true }
+    ensures passes { S.kind.is_encoding (S.kind.encode setting) ≡ true }
+    ensures back { S.kind.decode (S.kind.encode setting) ≡ setting }
 {
     let encoding = setting.encode();
     let passes = S::is_encoding(encoding);
@@ -17,7 +19,9 @@ pub fn is_restored<S: Setting>(setting: S) -> bool
 
 /// Whether bytes that pass the test are encoded as those bytes, and others as the initial setting: so for all bytes.
 pub fn are_met<S: Setting>(bytes: Encoding) -> bool
-    ensures { result ≡ true }
+    ensures told { result ≡ true }
+    ensures forth { S.kind.is_encoding bytes ≡ true → S.kind.encode (S.kind.decode bytes) ≡ bytes }
+    ensures other { S.kind.is_encoding bytes ≡ false → S.kind.decode bytes ≡ S.kind.initial }
 {
     let decoded = S::decode(bytes).encode();
     if S::is_encoding(bytes) {

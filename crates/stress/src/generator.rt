@@ -1,5 +1,5 @@
 // The generator of random numbers.
-ghost use Rattle.std.specs.Prelude.{◌≡◌, ◌%◌, ◌<◌, Some, None, ◌==◌, bit_and};
+ghost use Rattle.std.specs.Prelude.{◌≡◌, ◌%◌, ◌<◌, if◌then◌else◌, Some, None, ◌==◌, bit_and};
 ghost use Rattle.stress.specs.Mixing.{advanced, stirred, scrambled, drawn};
 
 /// What the state grows by with each draw.
@@ -62,7 +62,8 @@ impl Generator {
 
     /// One of so many rows, or none where there are no rows; then nothing is drawn.
     pub(crate) fn place(&mut self, rows: usize) -> Option<usize>
-        ensures { elim result [ Some place ↦ (place < rows) × (place ≡ drawn self.old.state % rows) | None ↦ rows ≡ 0 ] }
+        ensures state { self.new.state ≡ (if rows == 0 then self.old.state else advanced self.old.state) }
+        ensures value { elim result [ Some place ↦ (place < rows) × (place ≡ drawn self.old.state % rows) | None ↦ rows ≡ 0 ] }
     {
         if rows == 0 {
             return None;

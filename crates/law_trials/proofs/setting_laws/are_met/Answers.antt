@@ -7,16 +7,26 @@ pub returns-then-is_encoding : goal.returns-then-is_encoding
 returns-then-is_encoding g c =
     let k = g.S.Setting.kind in
     let passes = sym c.is_encoding.ensures ∙ c.if-is_encoding.true in
-    c.same.ensures
-    ∙ ap (λ b. same_bytes b c.args.bytes) (c.encode-decoded.ensures ∙ ap k.encode c.decode.ensures ∙ g.met.S.Setting.lawful.forth c.args.bytes passes)
-    ∙ (same_decides c.args.bytes c.args.bytes).1 refl
+    let laws = g.met.S.Setting.lawful in
+    record {
+      told = c.same.ensures
+          ∙ ap (λ b. same_bytes b c.args.bytes) (c.encode-decoded.ensures ∙ ap k.encode c.decode.ensures ∙ laws.forth c.args.bytes passes)
+          ∙ (same_decides c.args.bytes c.args.bytes).1 refl;
+      forth = laws.forth c.args.bytes;
+      other = laws.other c.args.bytes;
+    }
 
 pub returns-else-is_encoding : goal.returns-else-is_encoding
 returns-else-is_encoding g c =
     let k = g.S.Setting.kind in
     let fails = sym c.is_encoding.ensures ∙ c.if-is_encoding.false in
-    c.same-else-is_encoding.ensures
-    ∙ ap₂ same_bytes
-    (c.encode-decoded.ensures ∙ ap k.encode (c.decode.ensures ∙ g.met.S.Setting.lawful.other c.args.bytes fails))
-    (c.encode.ensures ∙ ap k.encode c.initial.ensures)
-    ∙ (same_decides (k.encode k.initial) (k.encode k.initial)).1 refl
+    let laws = g.met.S.Setting.lawful in
+    record {
+      told = c.same-else-is_encoding.ensures
+          ∙ ap₂ same_bytes
+          (c.encode-decoded.ensures ∙ ap k.encode (c.decode.ensures ∙ laws.other c.args.bytes fails))
+          (c.encode.ensures ∙ ap k.encode c.initial.ensures)
+          ∙ (same_decides (k.encode k.initial) (k.encode k.initial)).1 refl;
+      forth = laws.forth c.args.bytes;
+      other = laws.other c.args.bytes;
+    }

@@ -11,5 +11,9 @@ returns g c =
     let laws = g.met.S.Setting.lawful in
     let passes = c.is_encoding-passes.ensures ∙ ap k.is_encoding c.encode-encoding.ensures ∙ laws.passes c.args.setting in
     let decoded = c.decode.ensures ∙ ap k.decode c.encode-encoding.ensures ∙ laws.back c.args.setting in
-    and_from c.is_encoding-passes.result c.same.result passes
-    (c.same.ensures ∙ ap₂ same_bytes (c.encode-restored.ensures ∙ ap k.encode decoded) c.encode-encoding.ensures ∙ (same_decides own own).1 refl)
+    record {
+      told = and_from c.is_encoding-passes.result c.same.result passes
+          (c.same.ensures ∙ ap₂ same_bytes (c.encode-restored.ensures ∙ ap k.encode decoded) c.encode-encoding.ensures ∙ (same_decides own own).1 refl);
+      passes = laws.passes c.args.setting;
+      back = laws.back c.args.setting;
+    }
