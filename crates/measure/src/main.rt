@@ -1,13 +1,13 @@
 // What the calls cost: a workload is run so many times, and the sum of its answers is printed.
 #![tactic(auto)]
 
-mod bench;
+mod fixture;
 mod numbers;
 mod schemes;
 mod workloads;
 
 use anyhow::anyhow;
-use bench::Bench;
+use fixture::Fixture;
 use settings::setting::Setting;
 use settings::shelf_mark::ShelfMark;
 use std::alloc::{AllocError, Global};
@@ -79,26 +79,26 @@ fn measured(
         Workload::Inline => return Ok(schemes::verify_inline(count, mark.encode())),
         _ => {}
     }
-    let mut bench = Bench::ready(heap, sizes.replicas, places as usize, mark)?;
-    Ok(of_calls(&mut bench, workload, count, mark))
+    let mut fixture = Fixture::ready(heap, sizes.replicas, places as usize, mark)?;
+    Ok(of_calls(&mut fixture, workload, count, mark))
 }
 
 /// The sum of the turns of a workload of a cluster's calls.
-fn of_calls(bench: &mut Bench, workload: Workload, count: u32, mark: ShelfMark) -> u64 {
+fn of_calls(fixture: &mut Fixture, workload: Workload, count: u32, mark: ShelfMark) -> u64 {
     match workload {
-        Workload::New => workloads::make(bench, count),
-        Workload::Write => workloads::write(bench, count, mark),
-        Workload::Read => workloads::read(bench, count),
-        Workload::Query => workloads::answered(bench, count, 1, 0),
-        Workload::Store => workloads::answered(bench, count, 0, 1),
-        Workload::Silent => workloads::silent(bench, count),
-        Workload::Heard => workloads::heard(bench, count),
-        Workload::Ignored => workloads::ignored(bench, count),
-        Workload::Turned => workloads::turned(bench, count),
-        Workload::Finished => workloads::finished(bench, count),
-        Workload::Forged => workloads::forged(bench, count, mark),
-        Workload::Drop => workloads::dropped(bench, count),
-        Workload::Collect => workloads::collected(bench, count, mark),
+        Workload::New => workloads::make(fixture, count),
+        Workload::Write => workloads::write(fixture, count, mark),
+        Workload::Read => workloads::read(fixture, count),
+        Workload::Query => workloads::answered(fixture, count, 1, 0),
+        Workload::Store => workloads::answered(fixture, count, 0, 1),
+        Workload::Silent => workloads::silent(fixture, count),
+        Workload::Heard => workloads::heard(fixture, count),
+        Workload::Ignored => workloads::ignored(fixture, count),
+        Workload::Turned => workloads::turned(fixture, count),
+        Workload::Finished => workloads::finished(fixture, count),
+        Workload::Forged => workloads::forged(fixture, count, mark),
+        Workload::Drop => workloads::dropped(fixture, count),
+        Workload::Collect => workloads::collected(fixture, count, mark),
         Workload::Sign | Workload::Verify | Workload::Inline => 0,
     }
 }

@@ -28,7 +28,7 @@ const ENTRIES: usize = 64;
 
 /// A cluster with its tables, and the number of the replica that may be faulty, the last.
 #[derive(Drop)]
-pub(crate) struct Bench {
+pub(crate) struct Fixture {
     pub cluster: Cluster<ShelfMark, Threshold, Ledger>,
     pub replicas: Vec<Version<Encoding>>,
     pub readers: [Reader; READERS],
@@ -74,9 +74,9 @@ fn blank_line() -> Line {
     }
 }
 
-impl Bench {
+impl Fixture {
     /// A new cluster of so many replicas and places for messages.
-    fn new(heap: Global, count: u32, places: usize) -> Result<Bench, AllocError> {
+    fn new(heap: Global, count: u32, places: usize) -> Result<Fixture, AllocError> {
         let system = Threshold::new(count, count.saturating_sub(1) / 3);
         let rows = system.replicas() as usize;
         let mut replicas = vec![in heap; blank_row(); rows]?;
@@ -93,7 +93,7 @@ impl Bench {
             messages.as_mut_slice(),
             lines.as_mut_slice(),
         );
-        Ok(Bench {
+        Ok(Fixture {
             cluster,
             replicas,
             readers,
@@ -110,26 +110,26 @@ impl Bench {
         count: u32,
         places: usize,
         mark: ShelfMark,
-    ) -> Result<Bench, AllocError> {
-        let mut bench = Bench::new(heap, count, places)?;
-        let _ = bench.cluster.write(
-            bench.replicas.as_mut_slice(),
-            &mut bench.readers,
-            bench.messages.as_mut_slice(),
-            bench.lines.as_mut_slice(),
+    ) -> Result<Fixture, AllocError> {
+        let mut fixture = Fixture::new(heap, count, places)?;
+        let _ = fixture.cluster.write(
+            fixture.replicas.as_mut_slice(),
+            &mut fixture.readers,
+            fixture.messages.as_mut_slice(),
+            fixture.lines.as_mut_slice(),
             mark,
         );
-        let _ = bench.cluster.read(
-            bench.replicas.as_mut_slice(),
-            &mut bench.readers,
-            bench.messages.as_mut_slice(),
-            bench.lines.as_mut_slice(),
+        let _ = fixture.cluster.read(
+            fixture.replicas.as_mut_slice(),
+            &mut fixture.readers,
+            fixture.messages.as_mut_slice(),
+            fixture.lines.as_mut_slice(),
             1,
         );
-        for _ in 2..bench.last_place {
-            bench.deliver_request(1, 0);
+        for _ in 2..fixture.last_place {
+            fixture.deliver_request(1, 0);
         }
-        Ok(bench)
+        Ok(fixture)
     }
 
     /// A cluster made anew on the same tables, with an inline signer.
