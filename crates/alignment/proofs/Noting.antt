@@ -1,10 +1,15 @@
--- One more band, by members and by count. Assumes nothing.
-use Rattle.std.proofs.Common.{◌≡◌, ℕ, zero, suc, ◌+◌, ◌^◌, ◌<◌, ◌≤◌, true, false, ◌||◌, eqb, sym, ap, ◌∙◌, ap₂, ⊎_elim, arith}
+-- No band past the last, and one more band, by members and by count. Assumes nothing.
+use Rattle.std.proofs.Common.{◌≡◌, ℕ, zero, suc, ◌+◌, ◌/◌, ◌^◌, ◌<◌, ◌≤◌, true, false, ◌||◌, eqb, sym, ap, ◌∙◌, ap₂, ⊎_elim, arith, pow_mono}
+use Rattle.std.proofs.Math.Nat.{div-eq_of_lt}
 use mathlib.Core.Bool.{or-false}
 use lib.Bits.{bit_or}
 use Rattle.std.proofs.lemmas.Bool.{eq-eqb, ne_eqb, cases_lt}
 use Rattle.replica_sets.specs.Sets.{has, weigh}
 use Rattle.replica_sets.proofs.Members.{has_or, has_one, weigh_same}
+
+-- past the last band
+pub past_last : (a b : ℕ) → a < 2 ^ 64 → 64 ≤ b → 0 ≡ a / 2 ^ b
+past_last a b h l = let m : 2 ^ 64 ≤ 2 ^ b = pow_mono l in let k : a < 2 ^ b = omega arith in sym (div-eq_of_lt k)
 
 -- the members of a set with one more
 pub one_more : (a b k : ℕ) → b ≡ bit_or a (2 ^ k) → (i : ℕ) → has b i ≡ (has a i || eqb i k)

@@ -4,7 +4,7 @@ ghost use Rattle.alignment.specs.Bands.{noted, noted_count};
 ghost use Rattle.alignment.specs.Refusals.{alignment_number, note_refusal};
 
 use crate::alignment_refusal::AlignmentRefusal;
-use crate::bands::{count_of, is_in, no_bands, refusal_of, with_band};
+use crate::bands::BandSet;
 use crate::closed::Closed;
 use cluster::completed_read::CompletedRead;
 use settings::setting::Setting;
@@ -15,7 +15,7 @@ use settings::setting::Setting;
 #[derive(Drop)]
 pub struct AlignmentRun<S> {
     read: CompletedRead<S>,
-    bands: u64,
+    bands: BandSet,
 }
 
 impl<S: Setting> AlignmentRun<S> {
@@ -24,36 +24,35 @@ impl<S: Setting> AlignmentRun<S> {
     /// A read of timestamp 0 will do: a camera that was never measured counts as perfect.
     pub fn start(read: CompletedRead<S>) -> AlignmentRun<S>
         ensures read { result.read ≡ read }
-        ensures none { (b : ℕ) → noted result.bands b ≡ false }
+        ensures none { (b : ℕ) → noted result.bands.mask b ≡ false }
     {
         AlignmentRun {
             read,
-            bands: no_bands(),
+            bands: BandSet::none(),
         }
     }
 
     /// Notes a band, from 0 to 63 and each once; any number is met.
     ///
     /// Refused with 29 where there is no such band, then with 30 where it is taken. A refusal changes nothing.
+    #[tactic(auto, using(crate::proofs::Noting::one_more, crate::proofs::Noting::one_counted))]
     pub fn note(&mut self, band: u32) -> Result<(), AlignmentRefusal>
-        ensures answer { MatchResult result (λ _. note_refusal self.old.bands band ≡ None) (λ e. note_refusal self.old.bands band ≡ Some (alignment_number e)) }
-        ensures accepted { OnOk result ((b : ℕ) → noted self.new.bands b ≡ (noted self.old.bands b || b == band)) }
-        ensures counted { OnOk result (noted_count self.new.bands ≡ noted_count self.old.bands + 1) }
+        ensures answer { MatchResult result (λ _. note_refusal self.old.bands.mask band ≡ None) (λ e. note_refusal self.old.bands.mask band ≡ Some (alignment_number e)) }
+        ensures accepted { OnOk result ((b : ℕ) → noted self.new.bands.mask b ≡ (noted self.old.bands.mask b || b == band)) }
+        ensures counted { OnOk result (noted_count self.new.bands.mask ≡ noted_count self.old.bands.mask + 1) }
         ensures refused { OnErr result (self.new ≡ self.old) }
         ensures read { self.new.read ≡ self.old.read }
     {
-        if let Some(refusal) = refusal_of(self.bands, band) {
-            return Err(refusal);
-        }
-        self.bands = with_band(self.bands, band);
+        self.bands.check(band)?;
+        self.bands = self.bands.with(band);
         Ok(())
     }
 
     /// Whether the band is noted; no band past 63 is.
     pub fn is_noted(&self, band: u32) -> bool
-        ensures { result ≡ noted self.now.bands band }
+        ensures { result ≡ noted self.now.bands.mask band }
     {
-        is_in(self.bands, band)
+        self.bands.contains(band)
     }
 
     /// The reader whose read the run started from.
@@ -79,11 +78,11 @@ impl<S: Setting> AlignmentRun<S> {
 
     /// Closes the run: the timestamp of its read, and how many bands were noted.
     pub fn close(self) -> Closed
-        ensures { result ≡ record { timestamp = self.read.timestamp; bands = noted_count self.bands } }
+        ensures { result ≡ record { timestamp = self.read.timestamp; bands = noted_count self.bands.mask } }
     {
         Closed {
             timestamp: self.timestamp(),
-            bands: count_of(self.bands),
+            bands: self.bands.len(),
         }
     }
 }

@@ -1,68 +1,65 @@
-// Sets of bands as masks of 64 bits: each decision and each write of a run.
-ghost use Rattle.std.specs.Prelude.{◌≡◌, ℕ, ◌/◌, ◌%◌, ◌^◌, ◌<◌, false, IfNone, ◌==◌, bit_or, count_ones};
-ghost use Rattle.std.specs.Option.{option_map};
+// A set of bands: numbers below 64, one bit each.
+ghost use Rattle.std.specs.Prelude.{◌≡◌, ℕ, ◌^◌, ◌<◌, false, Some, None, MatchResult, OnOk, bit_or};
 ghost use Rattle.alignment.specs.Bands.{noted, noted_count};
 ghost use Rattle.alignment.specs.Refusals.{alignment_number, note_refusal};
 
 use crate::alignment_refusal::AlignmentRefusal;
 
 /// How many bands there are.
-pub(crate) const BANDS: u32 = 64;
+const BANDS: u32 = 64;
 
-/// No bands.
-pub(crate) fn no_bands() -> u64
-    ensures { (b : ℕ) → noted result b ≡ false }
-{
-    0
+/// A set of bands, as the mask of its members' numbers.
+#[derive(Clone, Copy, Debug, PartialEq, Eq)]
+pub(crate) struct BandSet {
+    mask: u64,
 }
 
-/// The binary digit of a mask at a place.
-fn is_set(bands: u64, place: u32) -> bool
-    requires { place < 64 }
-    ensures { result ≡ (bands / 2 ^ place % 2 == 1) }
-{
-    (bands >> place) % 2 == 1
-}
-
-/// Whether the band is noted.
-pub(crate) fn is_in(bands: u64, band: u32) -> bool
-    ensures { result ≡ noted bands band }
-{
-    band < BANDS && is_set(bands, band)
-}
-
-/// Why the band can't be noted, if it can't.
-pub(crate) fn refusal_of(bands: u64, band: u32) -> Option<AlignmentRefusal>
-    ensures refusal { note_refusal bands band ≡ option_map alignment_number result }
-    ensures free { IfNone result ((band < 64) × (noted bands band ≡ false)) }
-{
-    if band >= BANDS {
-        return Some(AlignmentRefusal::NoSuchBand);
+impl BandSet {
+    /// The set with no member.
+    #[tactic(auto, using(replica_sets::proofs::Members::has_none))]
+    pub(crate) fn none() -> BandSet
+        ensures { (b : ℕ) → noted result.mask b ≡ false }
+    {
+        BandSet { mask: 0 }
     }
-    if is_in(bands, band) {
-        return Some(AlignmentRefusal::BandTaken);
+
+    /// Whether the band is a member; no band past 63 is.
+    #[tactic(auto, using(crate::proofs::Noting::past_last), unfolding(replica_sets::specs::Sets::has))]
+    pub(crate) fn contains(self, band: u32) -> bool
+        ensures { result ≡ noted self.mask band }
+    {
+        self.mask.unbounded_shr(band) % 2 == 1
     }
-    None
-}
 
-/// The bands with one more.
-pub(crate) fn with_band(bands: u64, band: u32) -> u64
-    requires { band < 64 }
-    ensures { result ≡ bit_or bands (2 ^ band) }
-{
-    bands | 1 << band
-}
+    /// Whether the band can be noted; if not, why.
+    pub(crate) fn check(self, band: u32) -> Result<(), AlignmentRefusal>
+        ensures refusal { MatchResult result (λ _. note_refusal self.mask band ≡ None) (λ e. note_refusal self.mask band ≡ Some (alignment_number e)) }
+        ensures free { OnOk result ((band < 64) × (noted self.mask band ≡ false)) }
+    {
+        if band >= BANDS {
+            return Err(AlignmentRefusal::NoSuchBand);
+        }
+        if self.contains(band) {
+            return Err(AlignmentRefusal::BandTaken);
+        }
+        Ok(())
+    }
 
-/// How many digits of a mask are set.
-fn digits_set(bands: u64) -> u32
-    ensures { result ≡ count_ones bands }
-{
-    bands.count_ones()
-}
+    /// The set with the band as a member too.
+    pub(crate) fn with(self, band: u32) -> BandSet
+        requires { band < 64 }
+        ensures { result.mask ≡ bit_or self.mask (2 ^ band) }
+    {
+        BandSet {
+            mask: self.mask | 1 << band,
+        }
+    }
 
-/// How many bands are noted.
-pub(crate) fn count_of(bands: u64) -> u32
-    ensures { result ≡ noted_count bands }
-{
-    digits_set(bands)
+    /// How many members there are.
+    #[tactic(auto, using(replica_sets::proofs::Members::ones_count))]
+    pub(crate) fn len(self) -> u32
+        ensures { result ≡ noted_count self.mask }
+    {
+        self.mask.count_ones()
+    }
 }

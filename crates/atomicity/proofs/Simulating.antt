@@ -7,7 +7,7 @@ use Rattle.signatures.specs.declared.entry.Entry.{Entry}
 use Rattle.protocol.specs.declared.version.Version.{Version}
 use Rattle.cluster.specs.Making.{made_state}
 use Rattle.cluster.specs.State.{State}
-use Rattle.cluster.specs.declared.making.TableSizes.{TableSizes}
+use Rattle.cluster.specs.declared.tables.TableSizes.{TableSizes}
 use Rattle.cluster.specs.declared.reader.Reader.{Reader}
 use Rattle.atomicity.specs.declared.call.Call.{Call}
 use Rattle.atomicity.specs.declared.answer.Answer.{Answer}

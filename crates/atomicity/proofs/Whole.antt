@@ -14,7 +14,7 @@ use Rattle.protocol.specs.declared.client.Phase.TheVariants.{Idle, Storing}
 use Rattle.cluster.specs.State.{State, Fixed}
 use Rattle.cluster.specs.Making.{sizes_fit, making_refusal, fresh_reader, open_state, shut_state, made_by}
 use Rattle.cluster.specs.Steps.{no_reader, no_version, unless, write_step, read_step, request_step, reply_step, forge_step, drop_step, collect_step}
-use Rattle.cluster.specs.declared.making.TableSizes.{TableSizes}
+use Rattle.cluster.specs.declared.tables.TableSizes.{TableSizes}
 use Rattle.cluster.specs.declared.reader.Reader.{Reader}
 use Rattle.atomicity.specs.declared.call.Call.{Call}
 use Rattle.atomicity.specs.declared.call.Call.TheVariants.{Write, Read, DeliverRequest, DeliverReply, ForgeReply, DropMessage, Collect}

@@ -14,7 +14,7 @@ use Rattle.cluster.specs.Making.{made_state}
 use Rattle.cluster.specs.Steps.{message_at, reader_at, handed_out}
 use Rattle.cluster.specs.declared.completed_read.CompletedRead.{CompletedRead}
 use Rattle.cluster.specs.declared.delivery.Delivery.TheVariants.{Answered, Unanswered}
-use Rattle.cluster.specs.declared.making.TableSizes.{TableSizes}
+use Rattle.cluster.specs.declared.tables.TableSizes.{TableSizes}
 use Rattle.cluster.specs.declared.reader.Reader.{Reader}
 use Rattle.atomicity.specs.declared.call.Call.{Call}
 use Rattle.atomicity.specs.declared.call.Call.TheVariants.{Write, Read, DeliverRequest, DeliverReply, ForgeReply, DropMessage, Collect}

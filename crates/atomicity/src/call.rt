@@ -1,8 +1,8 @@
-// A call of a cluster as a value.
+// A call of a cluster as a value, and no closure: the theorem speaks of lists of calls.
 use protocol::message::Message;
 
 /// A call of a cluster.
-#[derive(Clone, Copy)]
+#[derive(Clone, Copy, Debug, PartialEq, Eq)]
 pub enum Call<S> {
     /// The writer begins to write the setting.
     Write(S),

@@ -1,16 +1,8 @@
 -- Lists that stand at the front of a table. Assumes nothing.
-use Rattle.std.proofs.Common.{◌≡◌, ℕ, zero, suc, ◌+◌, ◌-◌, ◌<◌, ◌≤◌, min, List, [], ◌∷◌, ◌++◌, length, get_or, take, drop, sym, ap, ◌∙◌, append_assoc, arith, length-take, take-take}
+use Rattle.std.proofs.Common.{◌≡◌, ℕ, zero, suc, ◌+◌, ◌-◌, ◌<◌, ◌≤◌, List, [], ◌∷◌, ◌++◌, length, take, drop, ap, ◌∙◌, append_assoc, arith, take-take}
 use lib.Seq.{take-append-le}
 use Rattle.std.specs.List.{remove}
-use Rattle.std.proofs.lemmas.List.{get_or-take, get_or_default, get_or_past, length-take-le}
-
--- a row of the list is the table's row
-pub front_row : {X : Type 0} (xs : List X) (n i : ℕ) (x d : X) → i < n → i < length xs → x ≡ get_or xs i x → x ≡ get_or (take n xs) i d
-front_row xs n i x d h l e = e ∙ get_or_default xs i x d l ∙ sym (get_or-take n xs i d h)
-
--- past the end of the list or of the table there is none
-pub front_past : {X : Type 0} (xs : List X) (n i : ℕ) (d : X) → min n (length xs) ≤ i → d ≡ get_or (take n xs) i d
-front_past xs n i d h = sym (get_or_past (take n xs) i d (rw (length-take n xs) h))
+use Rattle.std.proofs.lemmas.List.{length-take-le}
 
 -- the d rows after the first p turned by one, seen from the front
 cut : {X : Type 0} (xs : List X) (n p d : ℕ) (more : List X) → p + d ≡ n → suc n ≤ length xs →

@@ -1,11 +1,17 @@
 -- Counting the operations of readers that are open. Assumes nothing.
-use Rattle.std.proofs.Common.{◌≡◌, ℕ, ◌+◌, ◌<◌, Bool, cond, List, length, get_or, drop, ap, ◌∙◌}
-use Rattle.std.proofs.lemmas.List.{at_drop_more}
+use Rattle.std.proofs.Common.{◌≡◌, ℕ, ◌+◌, Bool, true, false, cond, not, List, refl, sym, arith}
+use Rattle.std.specs.List.{count_by}
+use Rattle.std.proofs.lemmas.List.Recursion.{is_count_by}
 use Rattle.protocol.specs.Clients.{is_idle}
 use Rattle.cluster.specs.Steps.{open_reads}
 use Rattle.cluster.specs.declared.reader.Reader.{Reader}
 
--- one row more
-pub open_more : (xs : List Reader) (i : ℕ) (d : Reader) (b : Bool) → i < length xs → is_idle (get_or xs i d).client.phase ≡ b →
-    open_reads (drop i xs) ≡ cond b 0 1 + open_reads (drop (i + 1) xs)
-open_more xs i d b h e = at_drop_more open_reads xs i d h ∙ ap (λ t. cond t 0 1 + open_reads (drop (i + 1) xs)) e
+one_more : (b : Bool) (n : ℕ) → cond b 0 1 + n ≡ cond (not b) (1 + n) n
+one_more true n = omega arith
+one_more false n = refl
+
+abbrev pub is_open : Reader → Bool
+is_open d = not (is_idle d.client.phase)
+
+pub open_counted : (ds : List Reader) → count_by is_open ds ≡ open_reads ds
+open_counted ds = sym (is_count_by open_reads is_open refl (λ d rest. one_more (is_idle d.client.phase) (open_reads rest)) ds)

@@ -14,3 +14,7 @@ kind_number ReadFinished = 4
 -- a line of a kind, about a client's operation and its timestamp
 abbrev pub line : LineKind → ℕ → ℕ → ℕ → Line
 line k c o t = record { kind = kind_number k; client = c; op = o; timestamp = t }
+
+-- a row that holds no line yet
+abbrev pub no_line : Line
+no_line = record { kind = 0; client = 0; op = 0; timestamp = 0 }

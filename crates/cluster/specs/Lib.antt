@@ -4,3 +4,4 @@ pub mod State
 pub mod Making
 pub mod Steps
 pub mod Rooms
+pub mod Words

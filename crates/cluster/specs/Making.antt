@@ -6,16 +6,10 @@ use Rattle.quorums.specs.Systems.{Quorums}
 use Rattle.signatures.specs.declared.entry.Entry.{Entry}
 use Rattle.protocol.specs.Clients.{fresh_client, initial_row}
 use Rattle.protocol.specs.declared.version.Version.{Version}
-use Rattle.protocol.specs.declared.message.Message.{Message}
 use Rattle.cluster.specs.Refusals.{first_refusal}
 use Rattle.cluster.specs.State.{State}
-use Rattle.cluster.specs.declared.journal.Line.{Line}
 use Rattle.cluster.specs.declared.reader.Reader.{Reader}
-use Rattle.cluster.specs.declared.making.TableSizes.{TableSizes}
-
--- how many rows the four tables have
-abbrev pub sizes_of : List (Version Bytes) → List Reader → List (Message Bytes) → List Line → TableSizes
-sizes_of replicas readers messages lines = record { replicas = length replicas; readers = length readers; messages = length messages; lines = length lines }
+use Rattle.cluster.specs.declared.tables.TableSizes.{TableSizes}
 
 -- whether tables of these sizes fit a system of n replicas and s readers
 abbrev pub sizes_fit : ℕ → ℕ → TableSizes → Bool

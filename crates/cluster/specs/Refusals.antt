@@ -27,6 +27,11 @@ abbrev pub numbered : {A : Type 0} → Result A Refusal → Result A ℕ
 numbered (Ok a) = Ok a
 numbered (Err e) = Err (number e)
 
+-- the number of what a test tells: none where it accepts
+abbrev pub told : Result (Unit {0}) Refusal → Option ℕ
+told (Ok a) = None
+told (Err e) = Some (number e)
+
 -- a check: whether it refuses, and the number by which it does
 abbrev pub Check : Type 0
 Check = Bool × ℕ

@@ -1,5 +1,5 @@
 -- What a cluster and its tables hold. Assumes nothing.
-use Rattle.std.specs.Prelude.{◌≡◌, ℕ, Bool, ◌&&◌, List, length, take, ◌==◌}
+use Rattle.std.specs.Prelude.{◌≡◌, ℕ, Bool, ◌&&◌, List, length, take, Result, MatchResult, ◌==◌}
 use Rattle.encodings.specs.Encodings.{Bytes}
 use Rattle.quorums.specs.Systems.{Quorums}
 use Rattle.signatures.specs.declared.entry.Entry.{Entry}
@@ -7,6 +7,9 @@ use Rattle.protocol.specs.declared.version.Version.{Version}
 use Rattle.protocol.specs.declared.message.Message.{Message}
 use Rattle.protocol.specs.declared.client.Client.{Client}
 use Rattle.cluster.specs.declared.cluster.Cluster.{Cluster}
+use Rattle.cluster.specs.declared.refusal.Refusal.{Refusal}
+use Rattle.cluster.specs.declared.tables.Tables.{Tables}
+use Rattle.cluster.specs.declared.tables.TableSizes.{TableSizes}
 use Rattle.cluster.specs.declared.reader.Reader.{Reader}
 use Rattle.cluster.specs.declared.journal.Line.{Line}
 
@@ -34,42 +37,46 @@ pub record State : Type 0 where
   pub messages : List (Message Bytes)
   pub lines : List Line
 
+-- how many rows the four tables have
+abbrev pub sizes_of : Tables → TableSizes
+sizes_of t = record { replicas = length t.replicas.now; readers = length t.readers.now; messages = length t.messages.now; lines = length t.lines.now }
+
 module _ {S P K : Type 0} (quorums : P → Quorums) where
   -- whether the tables have the sizes that the cluster was made with
-  abbrev pub sizes_kept : Cluster S P K → ℕ → ℕ → ℕ → ℕ → Bool
-  sizes_kept c replicas readers messages lines =
-      (replicas == (quorums c.system).size) && (readers == c.reader_places && (messages == c.message_places && lines == c.line_places))
+  abbrev pub sizes_kept : Cluster S P K → TableSizes → Bool
+  sizes_kept c t =
+      (t.replicas == (quorums c.system).size) && (t.readers == c.reader_places && (t.messages == c.messages.places && t.lines == c.lines.places))
 
   -- the tables have the sizes that the cluster was made with
-  pub record Sized (c : Cluster S P K) (replicas readers messages lines : ℕ) : Type 0 where
-    pub replicas_are : replicas ≡ (quorums c.system).size
-    pub readers_are : readers ≡ c.reader_places
-    pub messages_are : messages ≡ c.message_places
-    pub lines_are : lines ≡ c.line_places
+  pub record Sized (c : Cluster S P K) (t : TableSizes) : Type 0 where
+    pub replicas_are : t.replicas ≡ (quorums c.system).size
+    pub readers_are : t.readers ≡ c.reader_places
+    pub messages_are : t.messages ≡ c.messages.places
+    pub lines_are : t.lines ≡ c.lines.places
 
   -- what no call changes, of a cluster and tables of these sizes
-  abbrev pub fixed_part : Cluster S P K → ℕ → ℕ → ℕ → ℕ → Fixed
-  fixed_part c replicas readers messages lines = record {
+  abbrev pub fixed_part : Cluster S P K → TableSizes → Fixed
+  fixed_part c t = record {
     quorums = quorums c.system;
     faulty = c.faulty.members;
     shut = c.shut;
-    sized = sizes_kept c replicas readers messages lines;
-    message_places = c.message_places;
-    line_places = c.line_places;
+    sized = sizes_kept c t;
+    message_places = c.messages.places;
+    line_places = c.lines.places;
   }
 
 module _ {S P K : Type 0} (quorums : P → Quorums) (book : K → List Entry) (free : K → ℕ) where
   -- the state that a cluster and four tables are in
-  abbrev pub state : Cluster S P K → List (Version Bytes) → List Reader → List (Message Bytes) → List Line → State
-  state c replicas readers messages lines = record {
-    fixed = fixed_part quorums c (length replicas) (length readers) (length messages) (length lines);
+  abbrev pub state : Cluster S P K → Tables → State
+  state c t = record {
+    fixed = fixed_part quorums c (sizes_of t);
     book = book c.signatures;
     free = free c.signatures;
     writer = c.writer;
-    replicas = replicas;
-    readers = readers;
-    messages = take c.message_count messages;
-    lines = take c.line_count lines;
+    replicas = t.replicas.now;
+    readers = t.readers.now;
+    messages = take c.messages.used t.messages.now;
+    lines = take c.lines.used t.lines.now;
   }
 
 -- what an accepted call leaves of the cluster itself as it was
@@ -78,13 +85,21 @@ pub record Kept {S P K : Type 0} (c d : Cluster S P K) : Type 0 where
   pub faulty : d.faulty ≡ c.faulty
   pub shut : d.shut ≡ c.shut
   pub reader_places : d.reader_places ≡ c.reader_places
-  pub message_places : d.message_places ≡ c.message_places
-  pub line_places : d.line_places ≡ c.line_places
+  pub message_places : d.messages.places ≡ c.messages.places
+  pub line_places : d.lines.places ≡ c.lines.places
 
 -- a refused call leaves the cluster and the four whole tables as they were
-pub record Unchanged {C R D M L : Type 0} (c c' : C) (rs rs' : R) (ds ds' : D) (ms ms' : M) (ls ls' : L) : Type 0 where
+pub record Unchanged {C : Type 0} (c c' : C) (t t' : Tables) : Type 0 where
   pub cluster : c' ≡ c
-  pub replicas : rs' ≡ rs
-  pub readers : ds' ≡ ds
-  pub messages : ms' ≡ ms
-  pub lines : ls' ≡ ls
+  pub tables : t' ≡ t
+
+-- what a call leaves as it was: if it is accepted, what no call changes, and the scheme, which only a write uses; if it is refused, all
+abbrev pub Stays : {A S P K : Type 0} → Result A Refusal → Cluster S P K → Cluster S P K → Tables → Tables → Type 0
+Stays r c c' t t' = MatchResult r (λ _. Kept c c' × (c'.signatures ≡ c.signatures)) (λ _. Unchanged c c' t t')
+
+-- the four tables are those that were handed in, whatever they hold; a clause of its own in each contract, since it holds of refused calls too
+pub record SameTables (t t' : Tables) : Type 0 where
+  pub replicas : t'.replicas.ghost_name ≡ t.replicas.ghost_name
+  pub readers : t'.readers.ghost_name ≡ t.readers.ghost_name
+  pub messages : t'.messages.ghost_name ≡ t.messages.ghost_name
+  pub lines : t'.lines.ghost_name ≡ t.lines.ghost_name

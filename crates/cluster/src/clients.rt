@@ -1,82 +1,58 @@
 // The clients of a cluster: 0 is the writer, the readers are 1, 2, ..
-ghost use Rattle.std.specs.Prelude.{◌≡◌, ◌<◌, ◌≤◌, length, take, Some, slice_index_or};
+//
+// A client is told by its number, as in messages and journal lines; an enum of the two would be made from it for each use.
+// Writer and readers are two parameters: one belongs to the cluster and the other to the tables.
+ghost use Rattle.std.specs.Prelude.{◌≡◌, ◌<◌, ◌≤◌, length, take, Some, slice_get, slice_index_or};
 ghost use Rattle.protocol.specs.declared.message.Message.TheVariants.{Store};
-ghost use Rattle.cluster.specs.Steps.{no_message, no_version, no_reader, reader_at, client_at, writer_with, readers_with, completed_of, readers_done, end_line};
+ghost use Rattle.cluster.specs.Steps.{no_version, reader_at, client_at, writer_with, readers_with, completed_of, readers_done, end_line};
 
+use crate::front_list::FrontList;
 use crate::journal::{Line, LineKind};
 use crate::reader::{Completed, Reader};
-use crate::tables::listed_row;
-use encodings::encoding::{Encoding, blank};
-use encodings::rows::row_or;
-use protocol::client::{Client, Phase};
+use crate::tables::Tables;
+use encodings::encoding::Encoding;
+use protocol::client::Client;
 use protocol::message::Message;
 use protocol::version::Version;
-use replica_sets::replica_set::ReplicaSet;
-
-/// Stands where a table has no version.
-fn no_version() -> Version<Encoding>
-    ensures { result ≡ no_version }
-{
-    Version {
-        timestamp: 0,
-        value: blank(),
-        tag: 0,
-    }
-}
 
 /// The version that a replica keeps.
-pub(crate) fn version_at(replicas: &[Version<Encoding>], replica: u32) -> Version<Encoding>
-    ensures { result ≡ slice_index_or replicas.now replica no_version }
+pub(crate) fn version_at(tables: &Tables<'_>, replica: u32) -> Version<Encoding>
+    requires { replica < length tables.now.replicas.now }
+    ensures { result ≡ slice_index_or tables.now.replicas.now replica no_version }
 {
-    row_or(replicas, replica as usize, no_version())
+    tables.replicas[replica as usize]
 }
 
-/// The message at a place of the list of those in flight.
+/// The message at a place of the list of those in flight, if there is one.
 pub(crate) fn message_at(
-    messages: &[Message<Encoding>],
-    in_flight: usize,
+    list: FrontList,
+    tables: &Tables<'_>,
     place: usize,
-) -> Message<Encoding>
-    ensures { result ≡ slice_index_or (take in_flight messages.now) place no_message }
+) -> Option<Message<Encoding>>
+    requires { length tables.now.messages.now ≡ list.places }
+    ensures { result ≡ slice_get (take list.used tables.now.messages.now) place }
 {
-    listed_row(
-        messages,
-        in_flight,
-        place,
-        Message::Query { client: 0, op: 0 },
-    )
-}
-
-/// Stands where a table has no reader.
-fn no_reader() -> Reader
-    ensures { result ≡ no_reader }
-{
-    Reader {
-        client: Client {
-            phase: Phase::Idle,
-            op: 0,
-            heard: ReplicaSet::empty(),
-            best: no_version(),
-        },
-        completed: None,
-    }
+    list.row(tables.messages, place)
 }
 
 /// The row of a reader.
 pub(crate) fn reader_at(readers: &[Reader], id: u32) -> Reader
+    requires counted { 0 < id }
+    requires there { id ≤ length readers.now }
     ensures { result ≡ reader_at readers.now id }
 {
-    row_or(readers, id.saturating_sub(1) as usize, no_reader())
+    readers[(id - 1) as usize]
 }
 
 /// The client of a number.
-pub(crate) fn client_at(writer: Client, readers: &[Reader], id: u32) -> Client
-    ensures { result ≡ client_at writer readers.now id }
+pub(crate) fn client_at(writer: Client, tables: &Tables<'_>, id: u32) -> Client
+    requires { id ≤ length tables.now.readers.now }
+    ensures { result ≡ client_at writer tables.now.readers.now id }
 {
     if id == 0 {
         writer
     } else {
-        reader_at(readers, id).client
+        reader_at(tables.readers, id).client
     }
 }
 

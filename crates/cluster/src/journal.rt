@@ -3,16 +3,18 @@ ghost use Rattle.std.specs.Prelude.{◌≡◌};
 ghost use Rattle.cluster.specs.Journal.{kind_number, line};
 
 /// What a journal line tells.
-#[derive(Clone, Copy)]
+#[derive(Clone, Copy, Debug, PartialEq, Eq)]
 pub enum LineKind {
-    WriteBegun,
-    WriteFinished,
-    ReadBegun,
-    ReadFinished,
+    WriteBegun = 1,
+    WriteFinished = 2,
+    ReadBegun = 3,
+    ReadFinished = 4,
 }
 
 /// A journal line: the number of its kind, the client, the client's operation, and the operation's timestamp.
-#[derive(Clone, Copy)]
+///
+/// A table's row is plain numbers, and may hold any when it is handed in: a `LineKind` here would ask more of its owner.
+#[derive(Clone, Copy, Debug, Default, PartialEq, Eq)]
 pub struct Line {
     pub kind: u32,
     pub client: u32,
@@ -25,12 +27,7 @@ impl LineKind {
     pub fn number(self) -> u32
         ensures { result ≡ kind_number self }
     {
-        match self {
-            LineKind::WriteBegun => 1,
-            LineKind::WriteFinished => 2,
-            LineKind::ReadBegun => 3,
-            LineKind::ReadFinished => 4,
-        }
+        self as u32
     }
 }
 

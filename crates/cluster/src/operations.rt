@@ -4,19 +4,18 @@ ghost use Rattle.protocol.specs.Versions.{version};
 ghost use Rattle.protocol.specs.declared.message.Message.TheVariants.{Query, Store};
 ghost use Rattle.cluster.specs.Journal.{line};
 ghost use Rattle.cluster.specs.Refusals.{numbered};
-ghost use Rattle.cluster.specs.State.{state, Kept, Unchanged};
+ghost use Rattle.cluster.specs.State.{state, Kept, Unchanged, Stays, SameTables};
 ghost use Rattle.cluster.specs.Steps.{write_step, read_step};
 ghost use Rattle.cluster.specs.declared.journal.LineKind.TheVariants.{WriteBegun, ReadBegun};
 
 use crate::clients::{put_client, reader_at};
 use crate::cluster::Cluster;
 use crate::journal::{Line, LineKind};
-use crate::reader::Reader;
 use crate::refusal::Refusal;
 use crate::refusals::{begin_refusal, open_operations, read_refusal};
-use crate::tables::append_row;
+use crate::tables::Tables;
 use encodings::encoding::Encoding;
-use protocol::client::{querying_client, storing_client};
+use protocol::client::{Client, Phase};
 use protocol::message::Message;
 use protocol::version::Version;
 use quorums::quorum_system::QuorumSystem;
@@ -62,90 +61,45 @@ fn read_line(reader: u32, op: u32) -> Line
 
 impl<S: Setting, P: QuorumSystem, K: Signatures> Cluster<S, P, K> {
     /// Begins a write of a setting, and gives its timestamp.
-    pub fn write(
-        &mut self,
-        replicas: &mut [Version<Encoding>],
-        readers: &mut [Reader],
-        messages: &mut [Message<Encoding>],
-        lines: &mut [Line],
-        setting: S,
-    ) -> Result<u32, Refusal>
-        ensures steps { (g : ℕ) × (g < 2 ^ 32) × (let of = state P.quorums K.book K.free in write_step S.kind (of self.old replicas.old readers.old messages.old lines.old) setting g ≡ (numbered result, of self.new replicas.new readers.new messages.new lines.new)) }
-        ensures holds { MatchResult result (λ _. Kept self.old self.new) (λ _. Unchanged self.old self.new replicas.old replicas.new readers.old readers.new messages.old messages.new lines.old lines.new) }
+    pub fn write(&mut self, tables: &mut Tables<'_>, setting: S) -> Result<u32, Refusal>
+        ensures steps { (g : ℕ) × (g < 2 ^ 32) × (let of = state P.quorums K.book K.free in write_step S.kind (of self.old tables.old) setting g ≡ (numbered result, of self.new tables.new)) }
+        ensures holds { MatchResult result (λ _. Kept self.old self.new) (λ _. Unchanged self.old self.new tables.old tables.new) }
+        ensures tables { SameTables tables.old tables.new }
     {
-        if let Some(refusal) = self.closed(
-            replicas.len(),
-            readers.len(),
-            messages.len(),
-            lines.len(),
-        ) {
-            return Err(refusal);
-        }
-        let free_lines = self.line_places - self.line_count;
-        let opened = open_operations(self.writer, readers);
-        if let Some(refusal) = begin_refusal(
-            self.writer,
-            opened,
-            self.message_count,
-            self.message_places,
-            free_lines,
-        ) {
-            return Err(refusal);
-        }
+        self.closed(tables)?;
+        let opened = open_operations(self.writer, tables);
+        begin_refusal(self.writer, opened, self.messages, self.lines)?;
         let op = self.writer.op + 1;
         let encoding = setting.encode();
         let Some(tag) = self.signatures.sign(op, encoding) else {
             return Err(Refusal::SigningRefused);
         };
-        append_row(
-            messages,
-            self.message_count,
-            store_message(op, encoding, tag),
-        );
-        self.message_count += 1;
-        append_row(lines, self.line_count, write_line(op));
-        self.line_count += 1;
-        self.writer = storing_client::<S>(op);
+        self.messages
+            .append(tables.messages, store_message(op, encoding, tag));
+        self.lines.append(tables.lines, write_line(op));
+        self.writer = Client::new::<S>(Phase::Storing, op);
         Ok(op)
     }
 
     /// Begins a read of a reader, and gives its operation number.
-    pub fn read(
-        &mut self,
-        replicas: &mut [Version<Encoding>],
-        readers: &mut [Reader],
-        messages: &mut [Message<Encoding>],
-        lines: &mut [Line],
-        reader: u32,
-    ) -> Result<u32, Refusal>
-        ensures steps { let of = state P.quorums K.book K.free in read_step S.kind (of self.old replicas.old readers.old messages.old lines.old) reader ≡ (numbered result, of self.new replicas.new readers.new messages.new lines.new) }
-        ensures holds { MatchResult result (λ _. Kept self.old self.new × (self.new.signatures ≡ self.old.signatures)) (λ _. Unchanged self.old self.new replicas.old replicas.new readers.old readers.new messages.old messages.new lines.old lines.new) }
+    pub fn read(&mut self, tables: &mut Tables<'_>, reader: u32) -> Result<u32, Refusal>
+        ensures steps { let of = state P.quorums K.book K.free in read_step S.kind (of self.old tables.old) reader ≡ (numbered result, of self.new tables.new) }
+        ensures holds { Stays result self.old self.new tables.old tables.new }
+        ensures tables { SameTables tables.old tables.new }
     {
-        if let Some(refusal) = self.closed(
-            replicas.len(),
-            readers.len(),
-            messages.len(),
-            lines.len(),
-        ) {
-            return Err(refusal);
-        }
-        let free_lines = self.line_places - self.line_count;
-        if let Some(refusal) = read_refusal(
-            self.writer,
+        self.closed(tables)?;
+        read_refusal(self.writer, tables, reader, self.messages, self.lines)?;
+        let readers = &mut *tables.readers;
+        let op = reader_at(readers, reader).client.op + 1;
+        put_client(
+            &mut self.writer,
             readers,
             reader,
-            self.message_count,
-            self.message_places,
-            free_lines,
-        ) {
-            return Err(refusal);
-        }
-        let op = reader_at(readers, reader).client.op + 1;
-        put_client(&mut self.writer, readers, reader, querying_client::<S>(op));
-        append_row(messages, self.message_count, query_message(reader, op));
-        self.message_count += 1;
-        append_row(lines, self.line_count, read_line(reader, op));
-        self.line_count += 1;
+            Client::new::<S>(Phase::Querying, op),
+        );
+        self.messages
+            .append(tables.messages, query_message(reader, op));
+        self.lines.append(tables.lines, read_line(reader, op));
         Ok(op)
     }
 }

@@ -3,7 +3,7 @@ use encodings::encoding::Encoding;
 use protocol::client::Client;
 
 /// A read that is finished and not collected yet: its operation, and the timestamp and bytes of the setting that it gives.
-#[derive(Clone, Copy)]
+#[derive(Clone, Copy, Debug, PartialEq, Eq)]
 pub struct Completed {
     pub op: u32,
     pub timestamp: u32,
@@ -11,7 +11,7 @@ pub struct Completed {
 }
 
 /// A reader's row.
-#[derive(Clone, Copy)]
+#[derive(Clone, Copy, Debug, PartialEq, Eq)]
 pub struct Reader {
     pub client: Client,
     pub completed: Option<Completed>,

@@ -1,42 +1,46 @@
 // Why a cluster isn't made, or a call isn't carried out.
-ghost use Rattle.std.specs.Prelude.{◌≡◌};
+ghost use Rattle.std.specs.Prelude.{◌≡◌, Some};
 ghost use Rattle.cluster.specs.Refusals.{number};
+ghost use Rattle.cluster.specs.Words.{refusal_words};
+
+use std::error::Error;
+use std::fmt;
 
 /// Why a cluster isn't made, or a call isn't carried out.
-#[derive(Clone, Copy)]
+#[derive(Clone, Copy, Debug, PartialEq, Eq)]
 pub enum Refusal {
     /// There are no readers, or more than 8.
-    ReaderCount,
+    ReaderCount = 4,
     /// A table hasn't the size that it has to have.
-    TableSize,
+    TableSize = 5,
     /// The faulty replicas are no fault set.
-    NoFaultSet,
+    NoFaultSet = 6,
     /// The scheme's book isn't empty.
-    BookInUse,
+    BookInUse = 7,
     /// The cluster is shut.
-    Shut,
+    Shut = 8,
     /// There is no such client.
-    NoClient,
+    NoClient = 9,
     /// The client's operation is open.
-    OperationOpen,
+    OperationOpen = 10,
     /// The client's operation numbers are used up.
-    OperationsUsed,
+    OperationsUsed = 11,
     /// As many messages are in flight as there are places.
-    InFlightFull,
+    InFlightFull = 12,
     /// Too few journal lines are free.
-    JournalFull,
+    JournalFull = 13,
     /// The scheme refuses to sign.
-    SigningRefused,
+    SigningRefused = 14,
     /// There is no such message in flight.
-    NoMessage,
+    NoMessage = 15,
     /// A request was to go to a client, or a reply to a replica.
-    WrongWay,
+    WrongWay = 16,
     /// There is no such replica.
-    NoReplica,
+    NoReplica = 17,
     /// A reply was forged for a correct replica.
-    ReplicaCorrect,
+    ReplicaCorrect = 18,
     /// The reader has no completed read.
-    NothingCompleted,
+    NothingCompleted = 19,
 }
 
 impl Refusal {
@@ -44,23 +48,33 @@ impl Refusal {
     pub fn number(self) -> u32
         ensures { result ≡ number self }
     {
-        match self {
-            Refusal::ReaderCount => 4,
-            Refusal::TableSize => 5,
-            Refusal::NoFaultSet => 6,
-            Refusal::BookInUse => 7,
-            Refusal::Shut => 8,
-            Refusal::NoClient => 9,
-            Refusal::OperationOpen => 10,
-            Refusal::OperationsUsed => 11,
-            Refusal::InFlightFull => 12,
-            Refusal::JournalFull => 13,
-            Refusal::SigningRefused => 14,
-            Refusal::NoMessage => 15,
-            Refusal::WrongWay => 16,
-            Refusal::NoReplica => 17,
-            Refusal::ReplicaCorrect => 18,
-            Refusal::NothingCompleted => 19,
-        }
+        self as u32
     }
 }
+
+impl fmt::Display for Refusal {
+    ghost output = { λ r. Some (refusal_words r) };
+
+    fn fmt<W: fmt::Write>(&self, f: &mut fmt::Formatter<W>) -> fmt::Result {
+        f.write_str(match self {
+            Refusal::ReaderCount => "there are no readers, or more than 8",
+            Refusal::TableSize => "a table hasn't the size that it has to have",
+            Refusal::NoFaultSet => "the faulty replicas are no fault set",
+            Refusal::BookInUse => "the scheme's book isn't empty",
+            Refusal::Shut => "the cluster is shut",
+            Refusal::NoClient => "there is no such client",
+            Refusal::OperationOpen => "the client's operation is open",
+            Refusal::OperationsUsed => "the client's operation numbers are used up",
+            Refusal::InFlightFull => "as many messages are in flight as there are places",
+            Refusal::JournalFull => "too few journal lines are free",
+            Refusal::SigningRefused => "the scheme refuses to sign",
+            Refusal::NoMessage => "there is no such message in flight",
+            Refusal::WrongWay => "a request goes to replicas, and a reply to its client",
+            Refusal::NoReplica => "there is no such replica",
+            Refusal::ReplicaCorrect => "a correct replica's replies can't be forged",
+            Refusal::NothingCompleted => "the reader has no completed read",
+        })
+    }
+}
+
+impl Error for Refusal {}

@@ -1,21 +1,17 @@
 // The delivery of replies to clients.
-ghost use Rattle.std.specs.Prelude.{◌≡◌, ◌≤◌, length, MatchResult};
+ghost use Rattle.std.specs.Prelude.{◌≡◌, ◌≤◌, length};
 ghost use Rattle.cluster.specs.Refusals.{numbered};
-ghost use Rattle.cluster.specs.State.{state, Kept, Unchanged};
+ghost use Rattle.cluster.specs.State.{state, Stays, SameTables};
 ghost use Rattle.cluster.specs.Steps.{hear, reply_step, forge_step};
 
 use crate::clients::{client_at, end_line, finish_client, message_at, put_client, write_back};
 use crate::cluster::Cluster;
-use crate::journal::Line;
-use crate::reader::Reader;
 use crate::refusal::Refusal;
-use crate::refusals::{forge_refusal, reply_refusal, room_refusal};
-use crate::tables::append_row;
-use encodings::encoding::Encoding;
+use crate::refusals::{forge_refusal, reply_refusal};
+use crate::tables::Tables;
 use protocol::client::Reply;
 use protocol::encoded::decode_message;
 use protocol::message::Message;
-use protocol::version::Version;
 use quorums::quorum_system::QuorumSystem;
 use settings::setting::Setting;
 use signatures::signatures::Signatures;
@@ -24,51 +20,40 @@ impl<S: Setting, P: QuorumSystem, K: Signatures> Cluster<S, P, K> {
     /// Hands a reply to a client.
     fn hear(
         &mut self,
-        replicas: &[Version<Encoding>],
-        readers: &mut [Reader],
-        messages: &mut [Message<Encoding>],
-        lines: &mut [Line],
+        tables: &mut Tables<'_>,
         id: u32,
         message: Message<S>,
     ) -> Result<Reply, Refusal>
-        requires known { id ≤ length readers.old }
-        requires messages { length messages.old ≡ self.old.message_places }
-        requires lines { length lines.old ≡ self.old.line_places }
-        ensures steps { let of = state P.quorums K.book K.free in hear S.kind (of self.old replicas.now readers.old messages.old lines.old) id message ≡ (numbered result, of self.new replicas.now readers.new messages.new lines.new) }
-        ensures holds { MatchResult result (λ _. Kept self.old self.new × (self.new.signatures ≡ self.old.signatures)) (λ _. Unchanged self.old self.new replicas.now replicas.now readers.old readers.new messages.old messages.new lines.old lines.new) }
+        requires known { id ≤ length tables.old.readers.now }
+        requires messages { length tables.old.messages.now ≡ self.old.messages.places }
+        requires lines { length tables.old.lines.now ≡ self.old.lines.places }
+        ensures steps { let of = state P.quorums K.book K.free in hear S.kind (of self.old tables.old) id message ≡ (numbered result, of self.new tables.new) }
+        ensures holds { Stays result self.old self.new tables.old tables.new }
+        ensures tables { SameTables tables.old tables.new }
     {
-        let before = client_at(self.writer, readers, id);
+        let before = client_at(self.writer, tables, id);
         let mut client = before;
         match client.react(&self.system, &self.signatures, message) {
             Reply::Ignored => Ok(Reply::Ignored),
             Reply::Heard => {
-                put_client(&mut self.writer, readers, id, client);
+                put_client(&mut self.writer, tables.readers, id, client);
                 Ok(Reply::Heard)
             }
             Reply::Turned => {
-                if let Some(refusal) = room_refusal(
-                    self.message_count,
-                    self.message_places,
-                    Refusal::InFlightFull,
-                ) {
-                    return Err(refusal);
+                if self.messages.is_full() {
+                    return Err(Refusal::InFlightFull);
                 }
-                put_client(&mut self.writer, readers, id, client);
-                append_row(messages, self.message_count, write_back(id, client));
-                self.message_count += 1;
+                put_client(&mut self.writer, tables.readers, id, client);
+                self.messages
+                    .append(tables.messages, write_back(id, client));
                 Ok(Reply::Turned)
             }
             Reply::Finished => {
-                if let Some(refusal) = room_refusal(
-                    self.line_count,
-                    self.line_places,
-                    Refusal::JournalFull,
-                ) {
-                    return Err(refusal);
+                if self.lines.is_full() {
+                    return Err(Refusal::JournalFull);
                 }
-                finish_client(&mut self.writer, readers, id, before, client);
-                append_row(lines, self.line_count, end_line(id, before));
-                self.line_count += 1;
+                finish_client(&mut self.writer, tables.readers, id, before, client);
+                self.lines.append(tables.lines, end_line(id, before));
                 Ok(Reply::Finished)
             }
         }
@@ -77,78 +62,38 @@ impl<S: Setting, P: QuorumSystem, K: Signatures> Cluster<S, P, K> {
     /// Delivers a reply in flight to its client; the reply stays in flight.
     pub fn deliver_reply(
         &mut self,
-        replicas: &mut [Version<Encoding>],
-        readers: &mut [Reader],
-        messages: &mut [Message<Encoding>],
-        lines: &mut [Line],
+        tables: &mut Tables<'_>,
         message: usize,
     ) -> Result<Reply, Refusal>
-        ensures steps { let of = state P.quorums K.book K.free in reply_step S.kind (of self.old replicas.old readers.old messages.old lines.old) message ≡ (numbered result, of self.new replicas.new readers.new messages.new lines.new) }
-        ensures holds { MatchResult result (λ _. Kept self.old self.new × (self.new.signatures ≡ self.old.signatures)) (λ _. Unchanged self.old self.new replicas.old replicas.new readers.old readers.new messages.old messages.new lines.old lines.new) }
+        ensures steps { let of = state P.quorums K.book K.free in reply_step S.kind (of self.old tables.old) message ≡ (numbered result, of self.new tables.new) }
+        ensures holds { Stays result self.old self.new tables.old tables.new }
+        ensures tables { SameTables tables.old tables.new }
     {
-        if let Some(refusal) = self.closed(
-            replicas.len(),
-            readers.len(),
-            messages.len(),
-            lines.len(),
-        ) {
-            return Err(refusal);
-        }
-        let row = message_at(messages, self.message_count, message);
-        if let Some(refusal) = reply_refusal(
-            self.message_count,
-            message,
-            row,
-            self.system.replicas(),
-            readers.len(),
-        ) {
-            return Err(refusal);
-        }
-        self.hear(
-            replicas,
-            readers,
-            messages,
-            lines,
-            row.client(),
-            decode_message(row),
-        )
+        self.closed(tables)?;
+        let Some(row) = message_at(self.messages, tables, message) else {
+            return Err(Refusal::NoMessage);
+        };
+        reply_refusal(row, self.system.replicas(), tables.readers.len())?;
+        self.hear(tables, row.client(), decode_message(row))
     }
 
     /// Hands a client a reply as from a faulty replica, past the messages in flight.
     pub fn forge_reply(
         &mut self,
-        replicas: &mut [Version<Encoding>],
-        readers: &mut [Reader],
-        messages: &mut [Message<Encoding>],
-        lines: &mut [Line],
+        tables: &mut Tables<'_>,
         message: Message<S>,
     ) -> Result<Reply, Refusal>
-        ensures steps { let of = state P.quorums K.book K.free in forge_step S.kind (of self.old replicas.old readers.old messages.old lines.old) message ≡ (numbered result, of self.new replicas.new readers.new messages.new lines.new) }
-        ensures holds { MatchResult result (λ _. Kept self.old self.new × (self.new.signatures ≡ self.old.signatures)) (λ _. Unchanged self.old self.new replicas.old replicas.new readers.old readers.new messages.old messages.new lines.old lines.new) }
+        ensures steps { let of = state P.quorums K.book K.free in forge_step S.kind (of self.old tables.old) message ≡ (numbered result, of self.new tables.new) }
+        ensures holds { Stays result self.old self.new tables.old tables.new }
+        ensures tables { SameTables tables.old tables.new }
     {
-        if let Some(refusal) = self.closed(
-            replicas.len(),
-            readers.len(),
-            messages.len(),
-            lines.len(),
-        ) {
-            return Err(refusal);
-        }
-        if let Some(refusal) = forge_refusal(
+        self.closed(tables)?;
+        forge_refusal(
             message,
             self.system.replicas(),
             self.faulty,
-            readers.len(),
-        ) {
-            return Err(refusal);
-        }
-        self.hear(
-            replicas,
-            readers,
-            messages,
-            lines,
-            message.client(),
-            message,
-        )
+            tables.readers.len(),
+        )?;
+        self.hear(tables, message.client(), message)
     }
 }

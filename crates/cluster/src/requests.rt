@@ -1,22 +1,17 @@
 // The delivery of requests to replicas.
-ghost use Rattle.std.specs.Prelude.{◌≡◌, MatchResult};
+ghost use Rattle.std.specs.Prelude.{◌≡◌};
 ghost use Rattle.cluster.specs.Refusals.{numbered};
-ghost use Rattle.cluster.specs.State.{state, Kept, Unchanged};
+ghost use Rattle.cluster.specs.State.{state, Stays, SameTables};
 ghost use Rattle.cluster.specs.Steps.{request_step};
 
 use crate::clients::{message_at, version_at};
 use crate::cluster::Cluster;
 use crate::delivery::Delivery;
-use crate::journal::Line;
-use crate::reader::Reader;
 use crate::refusal::Refusal;
-use crate::refusals::{request_refusal, room_refusal};
-use crate::tables::append_row;
-use encodings::encoding::Encoding;
+use crate::refusals::request_refusal;
+use crate::tables::Tables;
 use protocol::encoded::{decode_message, encode_message};
-use protocol::message::Message;
 use protocol::replica::replica_step;
-use protocol::version::Version;
 use quorums::quorum_system::QuorumSystem;
 use settings::setting::Setting;
 use signatures::signatures::Signatures;
@@ -25,38 +20,23 @@ impl<S: Setting, P: QuorumSystem, K: Signatures> Cluster<S, P, K> {
     /// Delivers a request in flight to a replica; the request stays in flight.
     pub fn deliver_request(
         &mut self,
-        replicas: &mut [Version<Encoding>],
-        readers: &mut [Reader],
-        messages: &mut [Message<Encoding>],
-        lines: &mut [Line],
+        tables: &mut Tables<'_>,
         message: usize,
         replica: u32,
     ) -> Result<Delivery, Refusal>
-        ensures steps { let of = state P.quorums K.book K.free in request_step S.kind (of self.old replicas.old readers.old messages.old lines.old) message replica ≡ (numbered result, of self.new replicas.new readers.new messages.new lines.new) }
-        ensures holds { MatchResult result (λ _. Kept self.old self.new × (self.new.signatures ≡ self.old.signatures)) (λ _. Unchanged self.old self.new replicas.old replicas.new readers.old readers.new messages.old messages.new lines.old lines.new) }
+        ensures steps { let of = state P.quorums K.book K.free in request_step S.kind (of self.old tables.old) message replica ≡ (numbered result, of self.new tables.new) }
+        ensures holds { Stays result self.old self.new tables.old tables.new }
+        ensures tables { SameTables tables.old tables.new }
     {
-        if let Some(refusal) = self.closed(
-            replicas.len(),
-            readers.len(),
-            messages.len(),
-            lines.len(),
-        ) {
-            return Err(refusal);
-        }
-        let row = message_at(messages, self.message_count, message);
-        if let Some(refusal) = request_refusal(
-            self.message_count,
-            message,
-            row,
-            replica,
-            self.system.replicas(),
-        ) {
-            return Err(refusal);
-        }
+        self.closed(tables)?;
+        let Some(row) = message_at(self.messages, tables, message) else {
+            return Err(Refusal::NoMessage);
+        };
+        request_refusal(row, replica, self.system.replicas())?;
         if self.faulty.contains(replica) {
             return Ok(Delivery::Unanswered);
         }
-        let mut kept = version_at(replicas, replica);
+        let mut kept = version_at(tables, replica);
         let Some(answer) = replica_step(
             &self.signatures,
             replica,
@@ -65,16 +45,12 @@ impl<S: Setting, P: QuorumSystem, K: Signatures> Cluster<S, P, K> {
         ) else {
             return Ok(Delivery::Unanswered);
         };
-        if let Some(refusal) = room_refusal(
-            self.message_count,
-            self.message_places,
-            Refusal::InFlightFull,
-        ) {
-            return Err(refusal);
+        if self.messages.is_full() {
+            return Err(Refusal::InFlightFull);
         }
-        replicas[replica as usize] = kept;
-        append_row(messages, self.message_count, encode_message(answer));
-        self.message_count += 1;
+        tables.replicas[replica as usize] = kept;
+        self.messages
+            .append(tables.messages, encode_message(answer));
         Ok(Delivery::Answered)
     }
 }

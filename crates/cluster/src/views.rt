@@ -2,6 +2,7 @@
 ghost use Rattle.std.specs.Prelude.{◌≡◌};
 
 use crate::cluster::Cluster;
+use crate::making::Parts;
 use protocol::client::Client;
 use replica_sets::replica_set::ReplicaSet;
 
@@ -15,16 +16,16 @@ impl<S, P, K> Cluster<S, P, K> {
 
     /// How many messages are in flight: so many rows of their table are in use.
     pub fn messages_in_flight(&self) -> usize
-        ensures { result ≡ self.now.message_count }
+        ensures { result ≡ self.now.messages.used }
     {
-        self.message_count
+        self.messages.used
     }
 
     /// How many lines the journal has: so many rows of its table are in use.
     pub fn journal_lines(&self) -> usize
-        ensures { result ≡ self.now.line_count }
+        ensures { result ≡ self.now.lines.used }
     {
-        self.line_count
+        self.lines.used
     }
 
     /// The writer.
@@ -55,23 +56,29 @@ impl<S, P, K> Cluster<S, P, K> {
         &self.signatures
     }
 
-    /// Takes the cluster apart.
-    pub fn into_parts(self) -> (P, K)
-        ensures { (result.0 ≡ self.system) × (result.1 ≡ self.signatures) }
+    /// Takes the cluster apart; where it was shut, it had no readers.
+    pub fn into_parts(self) -> Parts<P, K>
+        ensures system { result.system ≡ self.system }
+        ensures signatures { result.signatures ≡ self.signatures }
+        ensures faulty { result.faulty ≡ self.faulty }
+        ensures readers { result.reader_count ≡ self.reader_places }
     {
         let Cluster {
             system,
             signatures,
-            faulty: _,
+            faulty,
             shut: _,
             writer: _,
-            reader_places: _,
-            message_places: _,
-            message_count: _,
-            line_places: _,
-            line_count: _,
+            reader_places,
+            messages: _,
+            lines: _,
             setting: _,
         } = self;
-        (system, signatures)
+        Parts {
+            system,
+            signatures,
+            faulty,
+            reader_count: reader_places,
+        }
     }
 }

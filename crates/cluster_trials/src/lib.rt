@@ -1,7 +1,7 @@
 // Trials of the cluster, through its public calls alone.
 #![tactic(auto)]
 
-mod digest;
+mod snapshot;
 #[cfg(test)]
 mod tests;
 mod trial;

@@ -1,211 +1,123 @@
-// A small cluster with its tables: four replicas, two readers, room for 12 messages and 6 journal lines.
+// A small cluster with its rows: four replicas, two readers, room for 12 messages and 6 journal lines.
+use atomicity::answer::Answer;
 use atomicity::call::Call;
 use atomicity::calling::make_call;
 use cluster::cluster::Cluster;
 use cluster::completed_read::CompletedRead;
 use cluster::delivery::Delivery;
-use cluster::journal::Line;
-use cluster::reader::Reader;
-use encodings::encoding::{Encoding, blank};
-use protocol::client::{Phase, Reply, fresh_client};
+use cluster::making::Parts;
+use cluster::refusal::Refusal;
+use cluster::rows::Rows;
+use cluster::tables::{TableSizes, Tables};
+use protocol::client::{Phase, Reply};
 use protocol::message::Message;
-use protocol::version::Version;
 use quorums::threshold::Threshold;
 use replica_sets::replica_set::ReplicaSet;
-use settings::setting::Setting;
 use settings::shelf_mark::ShelfMark;
 use signatures::signatures::Signatures;
 
-/// A cluster with its tables.
+/// The cluster of a trial.
+pub(crate) type TrialCluster<K> = Cluster<ShelfMark, Threshold, K>;
+
+/// The rows of a trial's tables.
+pub(crate) type TrialRows = Rows<4, 2, 12, 6>;
+
+/// How many rows each table of a trial has.
+const SIZES: TableSizes = TableSizes {
+    replicas: 4,
+    readers: 2,
+    messages: 12,
+    lines: 6,
+};
+
+/// A cluster with its rows.
 #[derive(Drop)]
 pub(crate) struct Trial<K> {
-    pub cluster: Cluster<ShelfMark, Threshold, K>,
-    pub replicas: [Version<Encoding>; 4],
-    pub readers: [Reader; 2],
-    pub messages: [Message<Encoding>; 12],
-    pub lines: [Line; 6],
+    pub cluster: TrialCluster<K>,
+    pub rows: TrialRows,
 }
 
 impl<K: Signatures> Trial<K> {
     /// A cluster of four replicas with this signature scheme and this set of faulty replicas.
     pub(crate) fn new(signatures: K, faulty: ReplicaSet) -> Trial<K> {
-        let mut replicas = [Version {
-            timestamp: 0,
-            value: blank(),
-            tag: 0,
-        }; 4];
-        let mut readers = [Reader {
-            client: fresh_client::<ShelfMark>(0),
-            completed: None,
-        }; 2];
-        let mut messages = [Message::Query { client: 0, op: 0 }; 12];
-        let mut lines = [Line {
-            kind: 0,
-            client: 0,
-            op: 0,
-            timestamp: 0,
-        }; 6];
-        let cluster = Cluster::new(
-            Threshold::new(4, 1),
+        let mut rows = Rows::blank();
+        let parts = Parts {
+            system: Threshold::new(4, 1),
             signatures,
             faulty,
-            2,
-            &mut replicas,
-            &mut readers,
-            &mut messages,
-            &mut lines,
-        );
-        Trial {
-            cluster,
-            replicas,
-            readers,
-            messages,
-            lines,
-        }
+            reader_count: 2,
+        };
+        let cluster = Cluster::new(parts, &mut rows.tables());
+        Trial { cluster, rows }
     }
 
-    /// The number of a call's refusal, or 0, where one table is passed without its last row: 0 replicas, 1 readers, 2 messages, 3 lines.
-    pub(crate) fn refusal_of(&mut self, short: u32, call: Call<ShelfMark>) -> u32 {
-        let replicas = if short == 0 { 3 } else { 4 };
-        let readers = if short == 1 { 1 } else { 2 };
-        let messages = if short == 2 { 11 } else { 12 };
-        let lines = if short == 3 { 5 } else { 6 };
-        match make_call(
-            &mut self.cluster,
-            &mut self.replicas[0..replicas],
-            &mut self.readers[0..readers],
-            &mut self.messages[0..messages],
-            &mut self.lines[0..lines],
-            call,
-        ) {
-            Ok(_) => 0,
-            Err(refusal) => refusal.number(),
-        }
+    /// Makes a call with tables of these sizes, and gives its answer, a refusal by its number.
+    pub(crate) fn call<T, F>(&mut self, sizes: TableSizes, call: F) -> Result<T, u32>
+    where
+        F: FnOnce(&mut TrialCluster<K>, &mut Tables<'_>) -> Result<T, Refusal>,
+        requires { F.IsAlwaysCallable call }
+    {
+        call(&mut self.cluster, &mut self.rows.tables().first(sizes)).map_err(Refusal::number)
     }
 
-    /// `write`, with a refusal by its number.
+    /// Makes a call that is a value, with tables of these sizes.
+    pub(crate) fn make_call(
+        &mut self,
+        sizes: TableSizes,
+        call: Call<ShelfMark>,
+    ) -> Result<Answer<ShelfMark>, u32> {
+        self.call(sizes, |cluster, tables| make_call(cluster, tables, call))
+    }
+
     pub(crate) fn write(&mut self, setting: ShelfMark) -> Result<u32, u32> {
-        match self.cluster.write(
-            &mut self.replicas,
-            &mut self.readers,
-            &mut self.messages,
-            &mut self.lines,
-            setting,
-        ) {
-            Ok(timestamp) => Ok(timestamp),
-            Err(refusal) => Err(refusal.number()),
-        }
+        self.call(SIZES, |cluster, tables| cluster.write(tables, setting))
     }
 
-    /// `read`, with a refusal by its number.
     pub(crate) fn read(&mut self, reader: u32) -> Result<u32, u32> {
-        match self.cluster.read(
-            &mut self.replicas,
-            &mut self.readers,
-            &mut self.messages,
-            &mut self.lines,
-            reader,
-        ) {
-            Ok(op) => Ok(op),
-            Err(refusal) => Err(refusal.number()),
-        }
+        self.call(SIZES, |cluster, tables| cluster.read(tables, reader))
     }
 
-    /// `deliver_request`, with a refusal by its number.
     pub(crate) fn deliver_request(
         &mut self,
         message: usize,
         replica: u32,
-    ) -> Result<&'static str, u32> {
-        match self.cluster.deliver_request(
-            &mut self.replicas,
-            &mut self.readers,
-            &mut self.messages,
-            &mut self.lines,
-            message,
-            replica,
-        ) {
-            Ok(delivery) => Ok(delivery_word(delivery)),
-            Err(refusal) => Err(refusal.number()),
-        }
+    ) -> Result<Delivery, u32> {
+        self.call(
+            SIZES,
+            |cluster, tables| cluster.deliver_request(tables, message, replica),
+        )
     }
 
-    /// `deliver_reply`, with a refusal by its number.
-    pub(crate) fn deliver_reply(&mut self, message: usize) -> Result<&'static str, u32> {
-        match self.cluster.deliver_reply(
-            &mut self.replicas,
-            &mut self.readers,
-            &mut self.messages,
-            &mut self.lines,
-            message,
-        ) {
-            Ok(reply) => Ok(reply_word(reply)),
-            Err(refusal) => Err(refusal.number()),
-        }
+    pub(crate) fn deliver_reply(&mut self, message: usize) -> Result<Reply, u32> {
+        self.call(
+            SIZES,
+            |cluster, tables| cluster.deliver_reply(tables, message),
+        )
     }
 
-    /// `forge_reply`, with a refusal by its number.
-    pub(crate) fn forge_reply(&mut self, message: Message<ShelfMark>) -> Result<&'static str, u32> {
-        match self.cluster.forge_reply(
-            &mut self.replicas,
-            &mut self.readers,
-            &mut self.messages,
-            &mut self.lines,
-            message,
-        ) {
-            Ok(reply) => Ok(reply_word(reply)),
-            Err(refusal) => Err(refusal.number()),
-        }
+    pub(crate) fn forge_reply(&mut self, message: Message<ShelfMark>) -> Result<Reply, u32> {
+        self.call(
+            SIZES,
+            |cluster, tables| cluster.forge_reply(tables, message),
+        )
     }
 
-    /// `drop_message`, with a refusal by its number.
     pub(crate) fn drop_message(&mut self, message: usize) -> Result<(), u32> {
-        match self.cluster.drop_message(
-            &mut self.replicas,
-            &mut self.readers,
-            &mut self.messages,
-            &mut self.lines,
-            message,
-        ) {
-            Ok(()) => Ok(()),
-            Err(refusal) => Err(refusal.number()),
-        }
+        self.call(
+            SIZES,
+            |cluster, tables| cluster.drop_message(tables, message),
+        )
     }
 
-    /// `collect`, with a refusal by its number.
     pub(crate) fn collect(&mut self, reader: u32) -> Result<CompletedRead<ShelfMark>, u32> {
-        match self.cluster.collect(
-            &mut self.replicas,
-            &mut self.readers,
-            &mut self.messages,
-            &mut self.lines,
-            reader,
-        ) {
-            Ok(completed) => Ok(completed),
-            Err(refusal) => Err(refusal.number()),
-        }
+        self.call(SIZES, |cluster, tables| cluster.collect(tables, reader))
     }
 
     /// Puts reader 1 into the read 1, one reply short of the end of the phase.
     pub(crate) fn put_near_end(&mut self, phase: Phase) {
-        self.readers[0].client.phase = phase;
-        self.readers[0].client.op = 1;
-        self.readers[0].client.heard = ReplicaSet::of_bits(3);
-    }
-}
-
-fn delivery_word(delivery: Delivery) -> &'static str {
-    match delivery {
-        Delivery::Answered => "answered",
-        Delivery::Unanswered => "unanswered",
-    }
-}
-
-fn reply_word(reply: Reply) -> &'static str {
-    match reply {
-        Reply::Heard => "heard",
-        Reply::Ignored => "ignored",
-        Reply::Turned => "turned",
-        Reply::Finished => "finished",
+        let client = &mut self.rows.readers[0].client;
+        client.phase = phase;
+        client.op = 1;
+        client.heard = ReplicaSet::of_bits(3);
     }
 }

@@ -1,5 +1,4 @@
-// The bytes of a setting, and tables of rows.
+// The bytes of a setting.
 #![tactic(auto)]
 
 pub mod encoding;
-pub mod rows;

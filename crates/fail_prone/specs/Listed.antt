@@ -1,18 +1,17 @@
 -- The system whose fault sets are listed. Assumes nothing.
-use Rattle.std.specs.Prelude.{◌≡◌, ℕ, zero, suc, Bool, true, false, cond, not, ◌&&◌, ◌||◌, List, [], ◌∷◌, length, Some, None, Option, ◌==◌, bit_or, nat_le, nat_lt}
+use Rattle.std.specs.Prelude.{◌≡◌, ℕ, zero, suc, Bool, true, cond, not, ◌&&◌, ◌||◌, List, length, Some, None, Option, ◌==◌, bit_or, nat_le, nat_lt}
+use Rattle.std.specs.List.{list_any, list_all}
 use Rattle.replica_sets.specs.Sets.{within, below, all, outside}
 use Rattle.replica_sets.specs.declared.replica_set.ReplicaSet.{ReplicaSet}
 use Rattle.quorums.specs.Systems.{Quorums, QuorumLaws}
 
 -- some listed set passes the test
 abbrev pub some_listed : (ℕ → Bool) → List ReplicaSet → Bool
-some_listed p [] = false
-some_listed p (s ∷ rest) = p s.members || some_listed p rest
+some_listed p listed = list_any (λ s. p s.members) listed
 
 -- each listed set passes the test
 abbrev pub each_listed : (ℕ → Bool) → List ReplicaSet → Bool
-each_listed p [] = true
-each_listed p (s ∷ rest) = p s.members && each_listed p rest
+each_listed p listed = list_all (λ s. p s.members) listed
 
 -- a fault set is a part of a listed set, or empty; a quorum has all replicas outside some listed set, or all replicas
 abbrev pub listed_system : ℕ → List ReplicaSet → Quorums

@@ -1,10 +1,10 @@
 -- The system whose fault sets are listed keeps the laws where no three of them hold all replicas; where three do, no system does. Assumes nothing.
 use Rattle.std.specs.Prelude.{◌≡◌, ℕ, ◌<◌, ◌≤◌, Bool, true, false, ◌||◌, ◌⊎◌, List, [], ◌∷◌, ◌==◌, bit_and, bit_or, nat_eq, nat_le}
 use Rattle.std.proofs.Math.Path.{refl, sym, ap}
-use Rattle.std.proofs.Common.{◌∙◌, subst}
+use Rattle.std.proofs.Common.{◌∙◌, subst, arith}
 use Rattle.std.proofs.Math.Logic.{inl, inr, ⊎_elim}
 use Rattle.std.specs.Int.Bits.{and_zero_r}
-use Rattle.std.proofs.lemmas.Bool.{eqb-true, eq-eqb, lt-ltb, ltb-true, cases_Bool, both_ways, and_parts, and_from, or_cases, or_left, or_right}
+use Rattle.std.proofs.lemmas.Bool.{eqb-true, eq-eqb, lt-ltb, ltb-true, false_from_ne_true, both_ways, and_parts, and_from, or_cases, or_left, or_right}
 use Rattle.replica_sets.specs.Sets.{has, Within, Below, within, below, all, common, outside}
 use Rattle.replica_sets.specs.declared.replica_set.ReplicaSet.{ReplicaSet}
 use Rattle.replica_sets.proofs.Members.{below_is, is_below, within_below, has_none, has_all, has_or, subset, common_in, outside_in, in_outside, outside_below}
@@ -48,16 +48,15 @@ within_none : (a : ℕ) → Within a 0 → a ≡ 0
 within_none a h = sym (eqb-true (bit_and a 0) a ((subset a 0).1 h)) ∙ and_zero_r a
 
 -- a has all replicas outside s
-Fill : ℕ → ℕ → ℕ → Type 0
+abbrev Fill : ℕ → ℕ → ℕ → Type 0
 Fill n s a = (i : ℕ) → i < n → has s i ≡ false → has a i ≡ true
 
 -- a listed set, or the empty one
-Part : List ReplicaSet → ℕ → Type 0
+abbrev Part : List ReplicaSet → ℕ → Type 0
 Part xs s = (s ≡ 0) ⊎ In s xs
 
 module _ (n : ℕ) (xs : List ReplicaSet) (a : ℕ) where
   quorum_parts : (listed_system n xs).quorum a ≡ true → Below n a × ((s : ℕ) × Part xs s × Fill n s a)
-  unfolding Part Fill
   quorum_parts e =
       let p = and_parts (below n a) (within (all n) a || some_listed (λ s. within (outside n s) a) xs) e in (
         is_below n a p.0,
@@ -69,7 +68,6 @@ module _ (n : ℕ) (xs : List ReplicaSet) (a : ℕ) where
       )
 
   fault_parts : (listed_system n xs).fault a ≡ true → Below n a × ((s : ℕ) × Part xs s × Within a s)
-  unfolding Part
   fault_parts e =
       let p = and_parts (below n a) (a == 0 || some_listed (within a) xs) e in (
         is_below n a p.0,
@@ -79,7 +77,6 @@ module _ (n : ℕ) (xs : List ReplicaSet) (a : ℕ) where
       )
 
   quorum_from : (s : ℕ) → Below n a → Part xs s → Fill n s a → (listed_system n xs).quorum a ≡ true
-  unfolding Part Fill
   quorum_from s b p f =
       and_from (below n a) (within (all n) a || some_listed (λ s. within (outside n s) a) xs) (below_is n a b)
       (⊎_elim (λ (e : s ≡ 0). or_left (within (all n) a) (some_listed (λ s. within (outside n s) a) xs) ((subset (all n) a).1 (λ i h. f i (in_all n i h) (ap (λ x. has x i) e ∙ has_none i))))
@@ -89,7 +86,6 @@ module _ (n : ℕ) (xs : List ReplicaSet) (a : ℕ) where
       p)
 
   fault_from : (s : ℕ) → Below n a → Part xs s → Within a s → (listed_system n xs).fault a ≡ true
-  unfolding Part
   fault_from s b p w =
       and_from (below n a) (a == 0 || some_listed (within a) xs) (below_is n a b)
       (⊎_elim (λ (e : s ≡ 0). or_left (a == 0) (some_listed (within a) xs) (eq-eqb a 0 (within_none a (λ i h. ap (λ x. has x i) (sym e) ∙ w i h))))
@@ -98,31 +94,24 @@ module _ (n : ℕ) (xs : List ReplicaSet) (a : ℕ) where
 
 -- ---- three sets that hold all replicas
 
-Cover : ℕ → ℕ → ℕ → ℕ → Type 0
+abbrev Cover : ℕ → ℕ → ℕ → ℕ → Type 0
 Cover n s t u = (i : ℕ) → i < n → has s i ≡ false → has t i ≡ false → has u i ≡ true
 
 either_from : (x y z : Bool) → (x ≡ false → y ≡ false → z ≡ true) → ((x || y) || z) ≡ true
-either_from true y z h = refl
-either_from false true z h = refl
-either_from false false z h = h refl refl
+either_from x y z h = grind arith
 
 either_to : (x y z : Bool) → ((x || y) || z) ≡ true → x ≡ false → y ≡ false → z ≡ true
-either_to true y z e p q = absurd (both_ways true p refl)
-either_to false true z e p q = absurd (both_ways true q refl)
-either_to false false z e p q = e
+either_to x y z e p q = grind arith
 
 -- three sets together, as `hold` joins them
-three : ℕ → ℕ → ℕ → ℕ
+abbrev three : ℕ → ℕ → ℕ → ℕ
 three s t u = bit_or (bit_or (bit_or 0 s) t) u
 
 three_has : (s t u i : ℕ) → has (three s t u) i ≡ ((has s i || has t i) || has u i)
-unfolding three
-three_has s t u i =
-    has_or (bit_or (bit_or 0 s) t) u i
-    ∙ ap (λ x. x || has u i) (has_or (bit_or 0 s) t i ∙ ap (λ x. x || has t i) (has_or 0 s i ∙ ap (λ x. x || has s i) (has_none i)))
+three_has s t u i = rw (has_or, has_or, has_or, has_none)
 
 covering : (n : ℕ) (xs : List ReplicaSet) (s t u : ℕ) → In s xs → In t xs → In u xs → Cover n s t u → hold 3 (all n) 0 xs ≡ true
-unfolding hold Cover three
+unfolding hold
 covering n xs s t u p q r c =
     some_in (λ x. some_listed (λ y. some_listed (λ z. within (all n) (three x y z)) xs) xs) xs s p
     (some_in (λ y. some_listed (λ z. within (all n) (three s y z)) xs) xs t q
@@ -130,7 +119,7 @@ covering n xs s t u p q r c =
     ((subset (all n) (three s t u)).1 (λ i h. three_has s t u i ∙ either_from (has s i) (has t i) (has u i) (c i (in_all n i h))))))
 
 covered : (n : ℕ) (xs : List ReplicaSet) → hold 3 (all n) 0 xs ≡ true → (s t u : ℕ) × In s xs × In t xs × In u xs × Cover n s t u
-unfolding hold Cover three
+unfolding hold
 covered n xs e =
     let p = some_find (λ x. some_listed (λ y. some_listed (λ z. within (all n) (three x y z)) xs) xs) xs e in
     let s = p.0 in
@@ -142,7 +131,6 @@ covered n xs e =
 
 -- in a list that has a set, each part lies in a listed set
 promote : (y : ReplicaSet) (ys : List ReplicaSet) (s : ℕ) → Part (y ∷ ys) s → (x : ℕ) × In x (y ∷ ys) × Within s x
-unfolding Part
 promote y ys s p =
     ⊎_elim (λ (e : s ≡ 0). (y.members, inl refl, λ i h. absurd (both_ways (has s i) (ap (λ x. has x i) e ∙ has_none i) h)))
     (λ (r : In s (y ∷ ys)). (s, r, λ i h. h))
@@ -150,10 +138,9 @@ promote y ys s p =
 
 -- what a set has not, no part of it has
 not_in : (v x i : ℕ) → Within v x → has x i ≡ false → has v i ≡ false
-not_in v x i w f = ⊎_elim (λ (m : has v i ≡ true). absurd (both_ways (has x i) f (w i m))) (λ (m : has v i ≡ false). m) (cases_Bool (has v i))
+not_in v x i w f = false_from_ne_true (has v i) (λ m. both_ways (has x i) f (w i m))
 
 no_cover : (n : ℕ) (xs : List ReplicaSet) → 1 ≤ n → hold 3 (all n) 0 xs ≡ false → (s t u : ℕ) → Part xs s → Part xs t → Part xs u → Cover n s t u → ⊥
-unfolding Part Cover
 no_cover n [] h e s t u p q r c =
     let none : (x : ℕ) → Part [] x → has x 0 ≡ false = λ x y. ⊎_elim (λ (z : x ≡ 0). ap (λ v. has v 0) z ∙ has_none 0) (λ (z : In x []). absurd z) y in
     both_ways (has u 0) (none u r) (c 0 h (none s p) (none t q))
@@ -167,7 +154,6 @@ no_cover n (y ∷ ys) h e s t u p q r c =
 -- ---- the laws
 
 pub listed_lawful : (n : ℕ) (xs : List ReplicaSet) → 1 ≤ n → n ≤ 32 → hold 3 (all n) 0 xs ≡ false → QuorumLaws (listed_system n xs)
-unfolding Fill Part Cover
 listed_lawful n xs least most apart = record {
   at_least_one = least;
   at_most_32 = most;
@@ -177,13 +163,11 @@ listed_lawful n xs least most apart = record {
   fault_downward = λ a b x w. let p = fault_parts n xs b x in fault_from n xs a p.1.0 (within_below n a b w p.0) p.1.1 (λ i e. p.1.2 i (w i e));
   none_faulty = fault_from n xs 0 0 (λ i e. absurd (both_ways (has 0 i) (has_none i) e)) (inl refl) (λ i e. e);
   meet = λ a b x y.
-      ⊎_elim (λ (f : (listed_system n xs).fault (common a b) ≡ true).
+      false_from_ne_true ((listed_system n xs).fault (common a b)) (λ f.
       let s = (quorum_parts n xs a x).1 in
       let t = (quorum_parts n xs b y).1 in
       let u = (fault_parts n xs (common a b) f).1 in
-      absurd (no_cover n xs least apart s.0 t.0 u.0 s.1 t.1 u.1 (λ i l v w. u.2 i (common_in a b i (s.2 i l v) (t.2 i l w)))))
-      (λ (f : (listed_system n xs).fault (common a b) ≡ false). f)
-      (cases_Bool ((listed_system n xs).fault (common a b)));
+      no_cover n xs least apart s.0 t.0 u.0 s.1 t.1 u.1 (λ i l v w. u.2 i (common_in a b i (s.2 i l v) (t.2 i l w))));
   rest = λ a x. let p = (fault_parts n xs a x).1 in
       quorum_from n xs (outside n a) p.0 (outside_below n a) p.1 (λ i l e. outside_in n a i l (not_in a p.0 i p.2 e));
 }
@@ -191,7 +175,6 @@ listed_lawful n xs least most apart = record {
 -- ---- where three listed sets hold all replicas, no system has them as fault sets
 
 pub none_keeps_the_laws : (n : ℕ) (xs : List ReplicaSet) → three_hold_all n xs ≡ true → NoSystemKeepsTheLaws n xs
-unfolding Cover
 none_keeps_the_laws n xs e q same faults laws =
     let k = covered n xs (and_parts (nat_le n 32) (hold 3 (all n) 0 xs) e).1 in
     let s = k.0 in

@@ -15,9 +15,10 @@ use replica_sets::replica_set::ReplicaSet;
 pub const MAX_LISTED: usize = 16;
 
 /// Replicas with listed fault sets: the replicas of any one listed set may be faulty together.
-#[derive(Clone, Copy)]
+#[derive(Clone, Copy, Debug, PartialEq, Eq)]
 pub struct FailProne {
     replicas: u32,
+    // The first `count` of `sets` are listed: a buffer with a length, so that a system is Copy and needs no heap (an ArrayVec is not Copy).
     count: usize,
     sets: [ReplicaSet; MAX_LISTED],
     ghost few: { count ≤ 16 },
@@ -29,23 +30,24 @@ pub fn three_hold_all(replicas: u32, listed: &[ReplicaSet]) -> bool
     ensures answer { result ≡ three_hold_all replicas listed.now }
     ensures impossible { result ≡ true → NoSystemKeepsTheLaws replicas listed.now }
 {
-    replicas <= MOST_REPLICAS && lists::three_hold(replicas, listed)
+    replicas <= MOST_REPLICAS
+        && lists::three_hold(ReplicaSet::first(replicas), ReplicaSet::empty(), listed)
 }
 
 impl FailProne {
     /// Why `new` would not make the system as asked for: a number of replicas that is not from 1 to 32,
     /// more than 16 sets or one with a replica that there is not, or three sets that hold all replicas.
-    pub fn check(replicas: u32, listed: &[ReplicaSet]) -> Option<Refusal>
+    pub fn check(replicas: u32, listed: &[ReplicaSet]) -> Result<(), Refusal>
         ensures { told result ≡ listed_check replicas listed.now }
     {
-        if replicas < 1 || replicas > MOST_REPLICAS {
-            Some(Refusal::ReplicaCount)
+        if !(1..=MOST_REPLICAS).contains(&replicas) {
+            Err(Refusal::ReplicaCount)
         } else if listed.len() > MAX_LISTED || !lists::are_below(replicas, listed) {
-            Some(Refusal::ListedSets)
+            Err(Refusal::ListedSets)
         } else if three_hold_all(replicas, listed) {
-            Some(Refusal::FaultBound)
+            Err(Refusal::FaultBound)
         } else {
-            None
+            Ok(())
         }
     }
 
@@ -55,7 +57,7 @@ impl FailProne {
         ensures listed { take result.count result.sets ≡ (if accepts (listed_check replicas listed.now) then listed.now else []) }
         ensures system { listed_system result.replicas (take result.count result.sets) ≡ (if accepts (listed_check replicas listed.now) then listed_system replicas listed.now else threshold 1 0) }
     {
-        if let Some(_) = FailProne::check(replicas, listed) {
+        if FailProne::check(replicas, listed).is_err() {
             return FailProne {
                 replicas: 1,
                 count: 0,

@@ -10,12 +10,7 @@ use replica_sets::replica_set::ReplicaSet;
 pub(crate) fn is_inside(set: ReplicaSet, listed: &[ReplicaSet]) -> bool
     ensures { result ≡ some_listed (within set.members) listed.now }
 {
-    for s in listed {
-        if set.is_subset(*s) {
-            return true;
-        }
-    }
-    false
+    listed.iter().any(|s| set.is_subset(*s))
 }
 
 // Whether the set has all replicas below `count`.
@@ -31,52 +26,43 @@ pub(crate) fn completes(set: ReplicaSet, count: u32, listed: &[ReplicaSet]) -> b
     requires { count ≤ 32 }
     ensures { result ≡ some_listed (λ s. within (outside count s) set.members) listed.now }
 {
-    for s in listed {
-        if s.outside(count).is_subset(set) {
-            return true;
-        }
-    }
-    false
+    listed.iter().any(|s| s.outside(count).is_subset(set))
 }
 
-// Whether `more` listed sets, repeats allowed, hold together with `base` all of `whole`.
-pub(crate) fn hold_with(
-    more: u32,
-    whole: ReplicaSet,
-    base: ReplicaSet,
-    listed: &[ReplicaSet],
-) -> bool
-    ensures { result ≡ hold more whole.members base.members listed.now }
+// Whether one listed set holds together with `base` all of `whole`.
+#[tactic(auto, unfolding(crate::specs::Listed::hold))]
+fn one_holds(whole: ReplicaSet, base: ReplicaSet, listed: &[ReplicaSet]) -> bool
+    ensures { result ≡ hold 1 whole.members base.members listed.now }
 {
-    if more == 0 {
-        return whole.is_subset(base);
-    }
-    for s in listed {
-        if hold_with(more - 1, whole, base.union(*s), listed) {
-            return true;
-        }
-    }
-    false
+    listed.iter().any(|s| whole.is_subset(base.union(*s)))
 }
 
-// Whether three listed sets, repeats allowed, hold all replicas below `count`.
-pub(crate) fn three_hold(count: u32, listed: &[ReplicaSet]) -> bool
-    requires { count ≤ 32 }
-    ensures { result ≡ hold 3 (all count) 0 listed.now }
+// Whether two listed sets, repeats allowed, hold together with `base` all of `whole`.
+//
+// One function for each number of sets: a recursion through a closure was tried, and what `any` gives then stayed open.
+#[tactic(auto, unfolding(crate::specs::Listed::hold))]
+fn two_hold(whole: ReplicaSet, base: ReplicaSet, listed: &[ReplicaSet]) -> bool
+    ensures { result ≡ hold 2 whole.members base.members listed.now }
 {
-    hold_with(3, ReplicaSet::first(count), ReplicaSet::empty(), listed)
+    listed
+        .iter()
+        .any(|s| one_holds(whole, base.union(*s), listed))
+}
+
+// Whether three listed sets, repeats allowed, hold together with `base` all of `whole`.
+pub(crate) fn three_hold(whole: ReplicaSet, base: ReplicaSet, listed: &[ReplicaSet]) -> bool
+    ensures { result ≡ hold 3 whole.members base.members listed.now }
+{
+    listed
+        .iter()
+        .any(|s| two_hold(whole, base.union(*s), listed))
 }
 
 // Whether each listed set has members below `count` only.
 pub(crate) fn are_below(count: u32, listed: &[ReplicaSet]) -> bool
     ensures { result ≡ each_listed (below count) listed.now }
 {
-    for s in listed {
-        if !s.is_below(count) {
-            return false;
-        }
-    }
-    true
+    listed.iter().all(|s| s.is_below(count))
 }
 
 // The listed sets, and empty ones after them.
@@ -85,8 +71,6 @@ pub(crate) fn padded(listed: &[ReplicaSet]) -> [ReplicaSet; MAX_LISTED]
     ensures { take (length listed.now) result ≡ listed.now }
 {
     let mut sets = [ReplicaSet::empty(); MAX_LISTED];
-    for i in 0..listed.len() {
-        sets[i] = listed[i];
-    }
+    sets[..listed.len()].copy_from_slice(listed);
     sets
 }

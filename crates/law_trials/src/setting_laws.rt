@@ -2,7 +2,7 @@
 ghost use Rattle.std.specs.Prelude.{◌≡◌, true, false, length};
 ghost use Rattle.encodings.specs.Encodings.{octets};
 
-use encodings::encoding::{Encoding, same};
+use encodings::encoding::Encoding;
 use settings::setting::Setting;
 
 /// Whether a setting's encoding passes the test, and is decoded to a setting with that encoding: so for every setting.
@@ -14,7 +14,7 @@ pub fn is_restored<S: Setting>(setting: S) -> bool
     let encoding = setting.encode();
     let passes = S::is_encoding(encoding);
     let restored = S::decode(encoding).encode();
-    passes & same(restored, encoding)
+    passes & (restored == encoding)
 }
 
 /// Whether bytes that pass the test are encoded as those bytes, and others as the initial setting: so for all bytes.
@@ -25,9 +25,9 @@ pub fn are_met<S: Setting>(bytes: Encoding) -> bool
 {
     let decoded = S::decode(bytes).encode();
     if S::is_encoding(bytes) {
-        same(decoded, bytes)
+        decoded == bytes
     } else {
-        same(decoded, S::initial().encode())
+        decoded == S::initial().encode()
     }
 }
 

@@ -1,17 +1,17 @@
 // A cluster that stands ready for a workload.
-use crate::numbers;
-use crate::schemes::ledger_of;
+use crate::numbers::Number;
 use cluster::cluster::Cluster;
 use cluster::journal::Line;
+use cluster::making::Parts;
 use cluster::reader::Reader;
-use encodings::encoding::{Encoding, blank};
-use protocol::client::fresh_client;
+use cluster::rows::Rows;
+use cluster::tables::Tables;
+use encodings::encoding::Encoding;
 use protocol::message::Message;
 use protocol::version::Version;
 use quorums::quorum_system::QuorumSystem;
 use quorums::threshold::Threshold;
 use replica_sets::replica_set::ReplicaSet;
-use settings::setting::Setting;
 use settings::shelf_mark::ShelfMark;
 use signatures::inline_signer::InlineSigner;
 use signatures::ledger::Ledger;
@@ -26,14 +26,20 @@ const LINES: usize = 8192;
 /// How many entries the ledger can have.
 const ENTRIES: usize = 64;
 
+/// The rows of a cluster's tables, of which all but the readers' lie in memory that is got for them.
+#[derive(Drop)]
+pub(crate) struct HeapRows {
+    replicas: Vec<Version<Encoding>>,
+    pub readers: [Reader; READERS],
+    messages: Vec<Message<Encoding>>,
+    lines: Vec<Line>,
+}
+
 /// A cluster with its tables, and the number of the replica that may be faulty, the last.
 #[derive(Drop)]
 pub(crate) struct Fixture {
     pub cluster: Cluster<ShelfMark, Threshold, Ledger>,
-    pub replicas: Vec<Version<Encoding>>,
-    pub readers: [Reader; READERS],
-    pub messages: Vec<Message<Encoding>>,
-    pub lines: Vec<Line>,
+    pub rows: HeapRows,
     pub last_replica: u32,
     pub last_place: usize,
 }
@@ -47,30 +53,31 @@ fn faulty_of(replicas: u32) -> ReplicaSet {
     }
 }
 
-/// A version row of zero bytes.
-fn blank_row() -> Version<Encoding> {
-    Version {
-        timestamp: 0,
-        value: blank(),
-        tag: 0,
+impl HeapRows {
+    /// Rows that hold nothing yet, of so many replicas and messages.
+    fn blank(heap: Global, replicas: usize, messages: usize) -> Result<HeapRows, AllocError> {
+        let Rows {
+            replicas: [version],
+            readers: [reader],
+            messages: [message],
+            lines: [line],
+        } = Rows::<1, 1, 1, 1>::blank();
+        Ok(HeapRows {
+            replicas: vec![in heap; version; replicas]?,
+            readers: [reader; READERS],
+            messages: vec![in heap; message; messages]?,
+            lines: vec![in heap; line; LINES]?,
+        })
     }
-}
 
-/// A reader's row with nothing in it.
-fn blank_reader() -> Reader {
-    Reader {
-        client: fresh_client::<ShelfMark>(0),
-        completed: None,
-    }
-}
-
-/// A journal line with nothing in it.
-fn blank_line() -> Line {
-    Line {
-        kind: 0,
-        client: 0,
-        op: 0,
-        timestamp: 0,
+    /// The tables, for one call.
+    pub(crate) fn tables(&mut self) -> Tables<'_> {
+        Tables {
+            replicas: self.replicas.as_mut_slice(),
+            readers: self.readers.as_mut_slice(),
+            messages: self.messages.as_mut_slice(),
+            lines: self.lines.as_mut_slice(),
+        }
     }
 }
 
@@ -78,27 +85,16 @@ impl Fixture {
     /// A new cluster of so many replicas and places for messages.
     fn new(heap: Global, count: u32, places: usize) -> Result<Fixture, AllocError> {
         let system = Threshold::new(count, count.saturating_sub(1) / 3);
-        let rows = system.replicas() as usize;
-        let mut replicas = vec![in heap; blank_row(); rows]?;
-        let mut readers = [blank_reader(); READERS];
-        let mut messages = vec![in heap; Message::Query { client: 0, op: 0 }; places]?;
-        let mut lines = vec![in heap; blank_line(); LINES]?;
-        let cluster = Cluster::new(
+        let mut rows = HeapRows::blank(heap, system.replicas() as usize, places)?;
+        let parts = Parts {
             system,
-            ledger_of(heap, ENTRIES)?,
-            faulty_of(count),
-            READERS,
-            replicas.as_mut_slice(),
-            &mut readers,
-            messages.as_mut_slice(),
-            lines.as_mut_slice(),
-        );
+            signatures: Ledger::with_room(heap, ENTRIES)?,
+            faulty: faulty_of(count),
+            reader_count: READERS,
+        };
         Ok(Fixture {
-            cluster,
-            replicas,
-            readers,
-            messages,
-            lines,
+            cluster: Cluster::new(parts, &mut rows.tables()),
+            rows,
             last_replica: count.saturating_sub(1),
             last_place: places.saturating_sub(1),
         })
@@ -112,20 +108,8 @@ impl Fixture {
         mark: ShelfMark,
     ) -> Result<Fixture, AllocError> {
         let mut fixture = Fixture::new(heap, count, places)?;
-        let _ = fixture.cluster.write(
-            fixture.replicas.as_mut_slice(),
-            &mut fixture.readers,
-            fixture.messages.as_mut_slice(),
-            fixture.lines.as_mut_slice(),
-            mark,
-        );
-        let _ = fixture.cluster.read(
-            fixture.replicas.as_mut_slice(),
-            &mut fixture.readers,
-            fixture.messages.as_mut_slice(),
-            fixture.lines.as_mut_slice(),
-            1,
-        );
+        let _ = fixture.cluster.write(&mut fixture.rows.tables(), mark);
+        let _ = fixture.cluster.read(&mut fixture.rows.tables(), 1);
         for _ in 2..fixture.last_place {
             fixture.deliver_request(1, 0);
         }
@@ -134,85 +118,47 @@ impl Fixture {
 
     /// A cluster made anew on the same tables, with an inline signer.
     pub(crate) fn made_anew(&mut self) -> Cluster<ShelfMark, Threshold, InlineSigner> {
-        let system = *self.cluster.system();
-        let faulty = self.cluster.faulty();
-        Cluster::new(
-            system,
-            InlineSigner::new(0),
-            faulty,
-            READERS,
-            self.replicas.as_mut_slice(),
-            &mut self.readers,
-            self.messages.as_mut_slice(),
-            self.lines.as_mut_slice(),
-        )
+        let parts = Parts {
+            system: *self.cluster.system(),
+            signatures: InlineSigner::new(0),
+            faulty: self.cluster.faulty(),
+            reader_count: READERS,
+        };
+        Cluster::new(parts, &mut self.rows.tables())
     }
 
     /// `deliver_request`, as a number.
     pub(crate) fn deliver_request(&mut self, message: usize, replica: u32) -> u64 {
-        numbers::of_delivery(
-            self.cluster.deliver_request(
-                self.replicas.as_mut_slice(),
-                &mut self.readers,
-                self.messages.as_mut_slice(),
-                self.lines.as_mut_slice(),
-                message,
-                replica,
-            ),
-        )
+        self.cluster
+            .deliver_request(&mut self.rows.tables(), message, replica)
+            .number()
     }
 
     /// `deliver_reply`, as a number.
     pub(crate) fn deliver_reply(&mut self, message: usize) -> u64 {
-        numbers::of_reply(
-            self.cluster.deliver_reply(
-                self.replicas.as_mut_slice(),
-                &mut self.readers,
-                self.messages.as_mut_slice(),
-                self.lines.as_mut_slice(),
-                message,
-            ),
-        )
+        self.cluster
+            .deliver_reply(&mut self.rows.tables(), message)
+            .number()
     }
 
     /// `forge_reply`, as a number.
     pub(crate) fn forge_reply(&mut self, message: Message<ShelfMark>) -> u64 {
-        numbers::of_reply(
-            self.cluster.forge_reply(
-                self.replicas.as_mut_slice(),
-                &mut self.readers,
-                self.messages.as_mut_slice(),
-                self.lines.as_mut_slice(),
-                message,
-            ),
-        )
+        self.cluster
+            .forge_reply(&mut self.rows.tables(), message)
+            .number()
     }
 
     /// `drop_message`, as a number.
     pub(crate) fn drop_message(&mut self, message: usize) -> u64 {
-        match self.cluster.drop_message(
-            self.replicas.as_mut_slice(),
-            &mut self.readers,
-            self.messages.as_mut_slice(),
-            self.lines.as_mut_slice(),
-            message,
-        ) {
-            Ok(()) => 0,
-            Err(refusal) => numbers::of_refusal(refusal),
-        }
+        self.cluster
+            .drop_message(&mut self.rows.tables(), message)
+            .number()
     }
 
     /// `collect`, as a number.
     pub(crate) fn collect(&mut self, reader: u32) -> u64 {
-        match self.cluster.collect(
-            self.replicas.as_mut_slice(),
-            &mut self.readers,
-            self.messages.as_mut_slice(),
-            self.lines.as_mut_slice(),
-            reader,
-        ) {
-            Ok(read) => u64::from(read.timestamp()),
-            Err(refusal) => numbers::of_refusal(refusal),
-        }
+        self.cluster
+            .collect(&mut self.rows.tables(), reader)
+            .number()
     }
 }

@@ -1,37 +1,57 @@
 // The numbers that answers give.
+use cluster::completed_read::CompletedRead;
 use cluster::delivery::Delivery;
 use cluster::refusal::Refusal;
 use protocol::client::Reply;
+use settings::shelf_mark::ShelfMark;
 
-/// The number of a refusal.
-pub(crate) fn of_refusal(refusal: Refusal) -> u64 {
-    1000 + u64::from(refusal.number())
+/// An answer that stands for a number.
+///
+/// The numbers are this program's own, so no enum of a library has them as its discriminants.
+pub(crate) trait Number {
+    fn number(self) -> u64;
 }
 
-/// The number of an answer that is a number itself.
-pub(crate) fn of_begun(answer: Result<u32, Refusal>) -> u64 {
-    match answer {
-        Ok(number) => u64::from(number),
-        Err(refusal) => of_refusal(refusal),
+impl Number for () {
+    fn number(self) -> u64 {
+        0
     }
 }
 
-/// The number of what the delivery of a request came to.
-pub(crate) fn of_delivery(answer: Result<Delivery, Refusal>) -> u64 {
-    match answer {
-        Ok(Delivery::Answered) => 1,
-        Ok(Delivery::Unanswered) => 2,
-        Err(refusal) => of_refusal(refusal),
+impl Number for u32 {
+    fn number(self) -> u64 {
+        u64::from(self)
     }
 }
 
-/// The number of what a reply came to.
-pub(crate) fn of_reply(answer: Result<Reply, Refusal>) -> u64 {
-    match answer {
-        Ok(Reply::Heard) => 1,
-        Ok(Reply::Ignored) => 2,
-        Ok(Reply::Turned) => 3,
-        Ok(Reply::Finished) => 4,
-        Err(refusal) => of_refusal(refusal),
+impl Number for Delivery {
+    fn number(self) -> u64 {
+        match self {
+            Delivery::Answered => 1,
+            Delivery::Unanswered => 2,
+        }
+    }
+}
+
+impl Number for Reply {
+    fn number(self) -> u64 {
+        match self {
+            Reply::Heard => 1,
+            Reply::Ignored => 2,
+            Reply::Turned => 3,
+            Reply::Finished => 4,
+        }
+    }
+}
+
+impl Number for CompletedRead<ShelfMark> {
+    fn number(self) -> u64 {
+        self.timestamp().number()
+    }
+}
+
+impl<T: Number> Number for Result<T, Refusal> {
+    fn number(self) -> u64 {
+        self.map_or_else(|refusal| 1000 + u64::from(refusal.number()), T::number)
     }
 }

@@ -1,4 +1,5 @@
 // The workloads of the signature schemes.
+use crate::turns::sum_of;
 use encodings::encoding::Encoding;
 use signatures::entry::Entry;
 use signatures::inline_signer::{InlineSigner, SLOTS};
@@ -9,13 +10,6 @@ use std::alloc::{AllocError, Global};
 /// How many entries a ledger can take besides those that it begins with.
 const ROOM: usize = 8000;
 
-/// A ledger for so many entries.
-pub(crate) fn ledger_of(heap: Global, entries: usize) -> Result<Ledger, AllocError> {
-    let mut memory: Vec<Entry> = Vec::new(heap);
-    memory.reserve_exact(entries)?;
-    Ok(Ledger::new(memory))
-}
-
 /// Signs the encoding under the timestamps from 1 to `count`.
 fn sign_all<K: Signatures>(signatures: &mut K, count: u32, encoding: Encoding) {
     for timestamp in 1..=count {
@@ -25,7 +19,7 @@ fn sign_all<K: Signatures>(signatures: &mut K, count: u32, encoding: Encoding) {
 
 /// A ledger with room that begins with so many entries of the encoding.
 fn begun_ledger(heap: Global, entries: u32, encoding: Encoding) -> Result<Ledger, AllocError> {
-    let mut ledger = ledger_of(heap, entries as usize + ROOM)?;
+    let mut ledger = Ledger::with_room(heap, entries as usize + ROOM)?;
     sign_all(&mut ledger, entries, encoding);
     Ok(ledger)
 }
@@ -38,14 +32,10 @@ pub(crate) fn sign(
     encoding: Encoding,
 ) -> Result<u64, AllocError> {
     let mut ledger = begun_ledger(heap, entries, encoding)?;
-    let mut sum: u64 = 0;
-    for turn in 0..count {
+    Ok(sum_of(count, |turn| {
         let timestamp = entries.wrapping_add(turn).wrapping_add(1);
-        if let Some(tag) = ledger.sign(timestamp, encoding) {
-            sum = sum.wrapping_add(u64::from(tag));
-        }
-    }
-    Ok(sum)
+        ledger.sign(timestamp, encoding).map_or(0, u64::from)
+    }))
 }
 
 /// `verify` of the entries of a ledger, one after another and again.
@@ -56,27 +46,27 @@ pub(crate) fn verify(
     encoding: Encoding,
 ) -> Result<u64, AllocError> {
     let ledger = begun_ledger(heap, entries, encoding)?;
-    let mut sum: u64 = 0;
-    for turn in 0..count {
+    Ok(sum_of(count, |turn| {
         let tag = turn % entries.max(1);
-        if ledger.verify(tag + 1, encoding, tag) {
-            sum = sum.wrapping_add(1);
-        }
-    }
-    Ok(sum)
+        let timestamp = tag + 1;
+        u64::from(ledger.verify(Entry {
+            timestamp,
+            encoding,
+            tag,
+        }))
+    }))
 }
 
 /// `verify` of the entries of an inline signer whose slots are all used, one after another and again.
 pub(crate) fn verify_inline(count: u32, encoding: Encoding) -> u64 {
-    let slots = SLOTS as u32;
     let mut signer = InlineSigner::new(0);
-    sign_all(&mut signer, slots, encoding);
-    let mut sum: u64 = 0;
-    for turn in 0..count {
-        let timestamp = 1 + turn % slots;
-        if signer.verify(timestamp, encoding, timestamp) {
-            sum = sum.wrapping_add(1);
-        }
-    }
-    sum
+    sign_all(&mut signer, SLOTS as u32, encoding);
+    sum_of(count, |turn| {
+        let timestamp = 1 + turn % SLOTS as u32;
+        u64::from(signer.verify(Entry {
+            timestamp,
+            encoding,
+            tag: timestamp,
+        }))
+    })
 }

@@ -1,15 +1,13 @@
 -- A system of groups keeps the laws where the outer and the inner system do. Assumes nothing.
-use Rattle.std.specs.Prelude.{◌≡◌, ℕ, ◌+◌, ◌*◌, ◌/◌, ◌%◌, ◌^◌, ◌<◌, ◌≤◌, Bool, true, false, cond, not, leb, Some, None, bit_or, nat_le, nat_lt, refl}
-use Rattle.std.proofs.Common.{sym, ap, ◌∙◌, subst, mod-lt, arith, add-one, pow_pos}
+use Rattle.std.specs.Prelude.{◌≡◌, ℕ, ◌+◌, ◌*◌, ◌/◌, ◌%◌, ◌^◌, ◌<◌, ◌≤◌, Bool, true, false, not, leb, bit_or, nat_le, nat_lt, refl}
+use Rattle.std.proofs.Common.{sym, ap, ◌∙◌, mod-lt, arith, add-one, pow_pos}
 use Rattle.std.proofs.Math.Logic.{⊎_elim}
 use Rattle.std.proofs.Math.Nat.{zero-div, zero-mod, mul_comm}
 use Rattle.std.proofs.lemmas.Nat.{mul-add-lt, mul-le}
-use Rattle.std.proofs.lemmas.Bool.{lt-ltb, leb-true, cases_Bool, both_ways, not-true, not_from_false, and_parts, and_from, and_right}
+use Rattle.std.proofs.lemmas.Bool.{lt-ltb, leb-true, cases_Bool, true_from_ne_false, false_from_ne_true, both_ways, not-true, not_from_false, and_parts, and_from, and_right}
 use Rattle.replica_sets.specs.Sets.{has, Within, Below, below, common, outside}
 use Rattle.replica_sets.proofs.Members.{below_is, is_below, within_below, below_has, has_part, those_below, those_put, those_out, those_push, those_skip, common_in, outside_in, outside_below}
 use Rattle.quorums.specs.Systems.{Quorums, QuorumLaws}
-use Rattle.quorums.specs.Refusals.{accepts}
-use Rattle.quorums.specs.Thresholds.{threshold}
 use Rattle.quorums.proofs.Intersections.{common_not_fault, correct_quorum}
 use Rattle.quorums.specs.ThresholdsLemmas.{threshold_lawful}
 use Rattle.nested.specs.Nesting.{part, groups, grouped, nested}
@@ -35,75 +33,62 @@ part_common : (m g a b p : ℕ) → has (part m g a) p ≡ true → has (part m 
 part_common m g a b p u v = part_in m g (common a b) p (part_below m g a p u) (common_in a b (g * m + p) (in_part m g a p u) (in_part m g b p v))
 
 module _ (o i : Quorums) (outer : QuorumLaws o) (inner : QuorumLaws i) (fits : o.size * i.size ≤ 32) where
-  r : ℕ
+  abbrev r : ℕ
   r = o.size
 
-  m : ℕ
+  abbrev m : ℕ
   m = i.size
 
   -- the groups with an inner quorum, and those with no inner fault set
-  held : ℕ → ℕ
+  abbrev held : ℕ → ℕ
   held a = groups o.size i.size i.quorum a
 
-  failed : ℕ → ℕ
+  abbrev failed : ℕ → ℕ
   failed a = groups o.size i.size (λ s. not (i.fault s)) a
 
   held_out : (a g : ℕ) → has (held a) g ≡ true → (g < r) × (i.quorum (part m g a) ≡ true)
-  unfolding held r m
   held_out a g e = those_out r (λ g. i.quorum (part m g a)) g e
 
   held_put : (a g : ℕ) → g < r → i.quorum (part m g a) ≡ true → has (held a) g ≡ true
-  unfolding held r m
   held_put a g h e = those_put r (λ g. i.quorum (part m g a)) g h e
 
   failed_out : (a g : ℕ) → has (failed a) g ≡ true → (g < r) × (i.fault (part m g a) ≡ false)
-  unfolding failed r m
   failed_out a g e = let p = those_out r (λ g. not (i.fault (part m g a))) g e in (p.0, not-true (i.fault (part m g a)) p.1)
 
   failed_put : (a g : ℕ) → g < r → i.fault (part m g a) ≡ false → has (failed a) g ≡ true
-  unfolding failed r m
   failed_put a g h e = those_put r (λ g. not (i.fault (part m g a))) g h (not_from_false (i.fault (part m g a)) e)
 
   held_below : (a : ℕ) → Below r (held a)
-  unfolding held r m
   held_below a = those_below r (λ g. i.quorum (part m g a))
 
   -- the two tests, taken apart and made
   module _ (a : ℕ) where
     quorum_parts : (grouped o i).quorum a ≡ true → Below (r * m) a × (o.quorum (held a) ≡ true)
-    unfolding held r m
     quorum_parts e = let p = and_parts (below (r * m) a) (o.quorum (held a)) e in (is_below (r * m) a p.0, p.1)
 
     fault_parts : (grouped o i).fault a ≡ true → Below (r * m) a × (o.fault (failed a) ≡ true)
-    unfolding failed r m
     fault_parts e = let p = and_parts (below (r * m) a) (o.fault (failed a)) e in (is_below (r * m) a p.0, p.1)
 
     quorum_from : Below (r * m) a → o.quorum (held a) ≡ true → (grouped o i).quorum a ≡ true
-    unfolding held r m
     quorum_from h e = and_from (below (r * m) a) (o.quorum (held a)) (below_is (r * m) a h) e
 
     fault_from : Below (r * m) a → o.fault (failed a) ≡ true → (grouped o i).fault a ≡ true
-    unfolding failed r m
     fault_from h e = and_from (below (r * m) a) (o.fault (failed a)) (below_is (r * m) a h) e
 
     not_fault : o.fault (failed a) ≡ false → (grouped o i).fault a ≡ false
-    unfolding failed r m
     not_fault e = and_right (below (r * m) a) (o.fault (failed a)) e
 
   -- a group that has not failed has its other replicas as a quorum
   rest_held : (a g : ℕ) → g < r → has (failed a) g ≡ false → has (held (outside (r * m) a)) g ≡ true
-  unfolding r m
   rest_held a g h e =
       let b = outside (r * m) a in
-      let f : i.fault (part m g a) ≡ true =
-      ⊎_elim (λ (x : i.fault (part m g a) ≡ true). x) (λ (x : i.fault (part m g a) ≡ false). absurd (both_ways (has (failed a) g) e (failed_put a g h x))) (cases_Bool (i.fault (part m g a))) in
+      let f = true_from_ne_false (i.fault (part m g a)) (λ x. both_ways (has (failed a) g) e (failed_put a g h x)) in
       held_put b g h
       (correct_quorum i inner (part m g a) (part m g b) f (part_below m g b) (λ p n x.
       part_in m g b p n (outside_in (r * m) a (g * m + p) (omega (arith, mul-add-lt g m p r h n, mul_comm m r))
-      (⊎_elim (λ (z : has a (g * m + p) ≡ true). absurd (both_ways (has (part m g a) p) x (part_in m g a p n z))) (λ (z : has a (g * m + p) ≡ false). z) (cases_Bool (has a (g * m + p)))))))
+      (false_from_ne_true (has a (g * m + p)) (λ z. both_ways (has (part m g a) p) x (part_in m g a p n z))))))
 
   grouped_lawful : QuorumLaws (grouped o i)
-  unfolding r m
   grouped_lawful = record {
     at_least_one = mul-le 1 1 r m outer.at_least_one inner.at_least_one;
     at_most_32 = fits;
@@ -118,9 +103,7 @@ module _ (o i : Quorums) (outer : QuorumLaws o) (inner : QuorumLaws i) (fits : o
         fault_from a (within_below (r * m) a b w p.0) (outer.fault_downward (failed a) (failed b) p.1
         (λ g e. let f = failed_out a g e in
         failed_put b g f.0
-        (⊎_elim (λ (y : i.fault (part m g b) ≡ true). absurd (both_ways (i.fault (part m g a)) f.1 (inner.fault_downward (part m g a) (part m g b) y (part_within m g a b w))))
-        (λ (y : i.fault (part m g b) ≡ false). y)
-        (cases_Bool (i.fault (part m g b))))));
+        (false_from_ne_true (i.fault (part m g b)) (λ y. both_ways (i.fault (part m g a)) f.1 (inner.fault_downward (part m g a) (part m g b) y (part_within m g a b w))))));
     none_faulty =
         fault_from 0 (is_below (r * m) 0 (lt-ltb 0 (2 ^ (r * m)) (pow_pos (r * m)))) (outer.fault_downward (failed 0) 0 outer.none_faulty
         (λ g e. absurd (both_ways (i.fault (part m g 0)) (failed_out 0 g e).1 (ap i.fault (part_none m g) ∙ inner.none_faulty))));
@@ -132,16 +115,10 @@ module _ (o i : Quorums) (outer : QuorumLaws o) (inner : QuorumLaws i) (fits : o
         quorum_from (outside (r * m) a) (outside_below (r * m) a) (correct_quorum o outer (failed a) (held (outside (r * m) a)) (fault_parts a x).1 (held_below (outside (r * m) a)) (rest_held a));
   }
 
--- the two cases of the check
-nested_at : Bool → Quorums → Quorums → Quorums
-nested_at b o i = cond (accepts (cond b None (Some 1))) (grouped o i) (threshold 1 0)
-
 pub nested_lawful : (o i : Quorums) → QuorumLaws o → QuorumLaws i → QuorumLaws (nested o i)
-unfolding nested_at
 nested_lawful o i outer inner =
-    let Holds : Bool → Type 0 = λ b. QuorumLaws (nested_at b o i) in
-    ⊎_elim (λ (e : leb (o.size * i.size) 32 ≡ true). subst Holds (sym e) (grouped_lawful o i outer inner (leb-true (o.size * i.size) 32 e)))
-    (λ (e : leb (o.size * i.size) 32 ≡ false). subst Holds (sym e) (threshold_lawful 1 0 refl))
+    ⊎_elim (λ (e : leb (o.size * i.size) 32 ≡ true). rw e (grouped_lawful o i outer inner (leb-true (o.size * i.size) 32 e)))
+    (λ (e : leb (o.size * i.size) 32 ≡ false). rw e (threshold_lawful 1 0 refl))
     (cases_Bool (nat_le (o.size * i.size) 32))
 
 -- ---- a loop over the groups: group k comes in where its part passes

@@ -4,8 +4,6 @@ use Rattle.replica_sets.specs.Sets.{below, those}
 use Rattle.quorums.specs.Systems.{Quorums}
 use Rattle.quorums.specs.Refusals.{accepts}
 use Rattle.quorums.specs.Thresholds.{threshold}
-use Rattle.nested.specs.declared.group_test.GroupTest.{GroupTest}
-use Rattle.nested.specs.declared.group_test.GroupTest.TheVariants.{HasQuorum, HasFailed}
 
 -- the members of a in group g, by their places there
 abbrev pub part : ℕ → ℕ → ℕ → ℕ
@@ -15,11 +13,6 @@ part m g a = a / 2 ^ (g * m) % 2 ^ m
 abbrev pub groups : ℕ → ℕ → (ℕ → Bool) → ℕ → ℕ
 groups r m test a = those r (λ g. test (part m g a))
 
--- what is asked of a group's part: is it an inner quorum; is it no inner fault set?
-abbrev pub passes : GroupTest → Quorums → ℕ → Bool
-passes HasQuorum inner s = inner.quorum s
-passes HasFailed inner s = not (inner.fault s)
-
 -- 1 where there would be more than 32 replicas
 abbrev pub nested_check : Quorums → Quorums → Option ℕ
 nested_check outer inner = cond (nat_le (outer.size * inner.size) 32) None (Some 1)
@@ -28,8 +21,8 @@ nested_check outer inner = cond (nat_le (outer.size * inner.size) 32) None (Some
 abbrev pub grouped : Quorums → Quorums → Quorums
 grouped outer inner = record {
   size = outer.size * inner.size;
-  quorum = λ a. below (outer.size * inner.size) a && outer.quorum (groups outer.size inner.size (passes HasQuorum inner) a);
-  fault = λ a. below (outer.size * inner.size) a && outer.fault (groups outer.size inner.size (passes HasFailed inner) a);
+  quorum = λ a. below (outer.size * inner.size) a && outer.quorum (groups outer.size inner.size inner.quorum a);
+  fault = λ a. below (outer.size * inner.size) a && outer.fault (groups outer.size inner.size (λ s. not (inner.fault s)) a);
 }
 
 -- the system of groups, or one replica that is never faulty where the check refuses it

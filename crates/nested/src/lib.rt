@@ -1,5 +1,4 @@
 // Quorum systems of groups of replicas.
 #![tactic(auto)]
 
-mod group_test;
 pub mod nested;

@@ -1,5 +1,5 @@
 -- What a client does with a message. Assumes nothing.
-use Rattle.std.specs.Prelude.{ℕ, Bool, true, false, cond, not, ◌&&◌, List, ◌==◌}
+use Rattle.std.specs.Prelude.{ℕ, Bool, true, false, cond, not, ◌&&◌, List, ◌==◌, codes}
 use Rattle.encodings.specs.Encodings.{Bytes}
 use Rattle.settings.specs.Kinds.{Kind}
 use Rattle.replica_sets.specs.Sets.{has, with_member}
@@ -36,6 +36,13 @@ is_storing Storing = true
 -- a client in a phase of the operation o that has heard the replicas h, with its best version
 abbrev pub client : Phase → ℕ → ℕ → Version Bytes → Client
 client p o h v = record { phase = p; op = o; heard = record { members = h }; best = v }
+
+-- the word that is printed for what a reply came to
+abbrev pub reply_word : Reply → List ℕ
+reply_word Heard = codes "heard"
+reply_word Ignored = codes "ignored"
+reply_word Turned = codes "turned"
+reply_word Finished = codes "finished"
 
 -- what a reply came to, and the client afterwards
 abbrev pub Reaction : Type 0

@@ -1,5 +1,5 @@
 -- Versions: settings with their timestamps and tags. Assumes nothing.
-use Rattle.std.specs.Prelude.{ℕ, Bool, ◌&&◌, ◌||◌, List, ◌==◌}
+use Rattle.std.specs.Prelude.{◌≡◌, ℕ, Bool, ◌&&◌, ◌||◌, List, ◌==◌}
 use Rattle.encodings.specs.Encodings.{same_bytes}
 use Rattle.settings.specs.Kinds.{Kind}
 use Rattle.signatures.specs.Books.{signed}
@@ -13,6 +13,10 @@ version t v g = record { timestamp = t; value = v; tag = g }
 -- the version with another value in the place of its own
 abbrev pub with_value : {A B : Type 0} → (A → B) → Version A → Version B
 with_value f v = version v.timestamp (f v.value) v.tag
+
+-- whether each result that a call may give, as `returns` tells, is what g gives
+abbrev pub Computes : {A B : Type 0} → (A → B → Type 0) → (A → B) → Type 0
+Computes {A} {B} returns g = (x : A) (y : B) → returns x y → y ≡ g x
 
 module _ {S : Type 0} (k : Kind S) where
   -- what holds before any write

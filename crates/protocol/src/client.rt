@@ -1,6 +1,6 @@
 // What a client does with a message.
-ghost use Rattle.std.specs.Prelude.{◌≡◌};
-ghost use Rattle.protocol.specs.Clients.{fresh_client, is_idle, awaits, value_heard, ack_heard, react, begin_query, begin_store};
+ghost use Rattle.std.specs.Prelude.{◌≡◌, Some};
+ghost use Rattle.protocol.specs.Clients.{client, initial_row, is_idle, awaits, value_heard, ack_heard, react, reply_word};
 
 use crate::encoded::encode_version;
 use crate::message::Message;
@@ -11,9 +11,10 @@ use quorums::quorum_system::QuorumSystem;
 use replica_sets::replica_set::ReplicaSet;
 use settings::setting::Setting;
 use signatures::signatures::Signatures;
+use std::fmt;
 
 /// Where a client stands: no operation open, collecting values, or having a version stored.
-#[derive(Clone, Copy)]
+#[derive(Clone, Copy, Debug, PartialEq, Eq)]
 pub enum Phase {
     Idle,
     Querying,
@@ -21,7 +22,7 @@ pub enum Phase {
 }
 
 /// What a reply came to.
-#[derive(Clone, Copy)]
+#[derive(Clone, Copy, Debug, PartialEq, Eq)]
 pub enum Reply {
     /// It counts, and the phase goes on.
     Heard,
@@ -34,7 +35,7 @@ pub enum Reply {
 }
 
 /// A client: its phase, the number of its latest operation, the replicas heard in this phase, and a read's best version so far.
-#[derive(Clone, Copy)]
+#[derive(Clone, Copy, Debug, PartialEq, Eq)]
 pub struct Client {
     pub phase: Phase,
     pub op: u32,
@@ -42,55 +43,43 @@ pub struct Client {
     pub best: Version<Encoding>,
 }
 
+impl fmt::Display for Reply {
+    ghost output = { λ r. Some (reply_word r) };
+
+    fn fmt<W: fmt::Write>(&self, f: &mut fmt::Formatter<W>) -> fmt::Result {
+        f.write_str(match self {
+            Reply::Heard => "heard",
+            Reply::Ignored => "ignored",
+            Reply::Turned => "turned",
+            Reply::Finished => "finished",
+        })
+    }
+}
+
 impl Phase {
     /// Whether no operation is open.
     pub fn is_idle(self) -> bool
         ensures { result ≡ is_idle self }
     {
-        match self {
-            Phase::Idle => true,
-            Phase::Querying | Phase::Storing => false,
-        }
-    }
-}
-
-/// A client that is idle, with nothing heard and the initial version as its best, after `op` operations.
-pub fn fresh_client<S: Setting>(op: u32) -> Client
-    ensures { result ≡ fresh_client S.kind op }
-{
-    Client {
-        phase: Phase::Idle,
-        op,
-        heard: ReplicaSet::empty(),
-        best: encode_version(initial_version::<S>()),
-    }
-}
-
-/// A reader that begins the read `op`.
-pub fn querying_client<S: Setting>(op: u32) -> Client
-    ensures { result ≡ begin_query S.kind op }
-{
-    Client {
-        phase: Phase::Querying,
-        op,
-        heard: ReplicaSet::empty(),
-        best: encode_version(initial_version::<S>()),
-    }
-}
-
-/// The writer as it begins the write `op`; only a read has a best version.
-pub fn storing_client<S: Setting>(op: u32) -> Client
-    ensures { result ≡ begin_store S.kind op }
-{
-    Client {
-        phase: Phase::Storing,
-        op,
-        heard: ReplicaSet::empty(),
-        best: encode_version(initial_version::<S>()),
+        self == Phase::Idle
     }
 }
 
 impl Client {
+    /// A client in a phase of the operation `op`, with nothing heard and the initial version as its best.
+    ///
+    /// It is idle after `op` operations; only a read has another version as its best later.
+    pub fn new<S: Setting>(phase: Phase, op: u32) -> Client
+        ensures { result ≡ client phase op 0 (initial_row S.kind) }
+    {
+        Client {
+            phase,
+            op,
+            heard: ReplicaSet::empty(),
+            best: encode_version(initial_version::<S>()),
+        }
+    }
+
     /// Whether a reply of the replica to the operation `op` is still waited for.
     fn awaits(self, replica: u32, op: u32) -> bool
         ensures { result ≡ awaits self replica op }
@@ -125,7 +114,7 @@ impl Client {
     {
         let acknowledged = self.heard.with(replica);
         if system.is_quorum(acknowledged) {
-            *self = fresh_client::<S>(self.op);
+            *self = Client::new::<S>(Phase::Idle, self.op);
             Reply::Finished
         } else {
             self.heard = acknowledged;

@@ -7,22 +7,20 @@ use crate::message::Message;
 use crate::version::Version;
 use encodings::encoding::Encoding;
 use settings::setting::Setting;
+use std::marker::PhantomData;
 
 /// The version with its setting's bytes.
 pub fn encode_version<S: Setting>(version: Version<S>) -> Version<Encoding>
     ensures { result ≡ with_value S.kind.encode version }
 {
-    Version {
-        timestamp: version.timestamp,
-        value: version.value.encode(),
-        tag: version.tag,
-    }
+    version.map(S::encode)
 }
 
 /// The version with the setting that its bytes are decoded to.
 pub fn decode_version<S: Setting>(version: Version<Encoding>) -> Version<S>
     ensures { result ≡ with_value S.kind.decode version }
 {
+    // No plainer by `map`: its closure would have to take the kind along, as below.
     Version {
         timestamp: version.timestamp,
         value: S::decode(version.value),
@@ -34,74 +32,21 @@ pub fn decode_version<S: Setting>(version: Version<Encoding>) -> Version<S>
 pub fn encode_message<S: Setting>(message: Message<S>) -> Message<Encoding>
     ensures { result ≡ each_value S.kind.encode message }
 {
-    match message {
-        Message::Query { client, op } => Message::Query { client, op },
-        Message::Store {
-            client,
-            op,
-            version,
-        } => Message::Store {
-            client,
-            op,
-            version: encode_version(version),
-        },
-        Message::Value {
-            replica,
-            client,
-            op,
-            version,
-        } => Message::Value {
-            replica,
-            client,
-            op,
-            version: encode_version(version),
-        },
-        Message::Ack {
-            replica,
-            client,
-            op,
-        } => Message::Ack {
-            replica,
-            client,
-            op,
-        },
-    }
+    message.map(S::encode)
 }
 
 /// The message with the setting that its bytes are decoded to.
 pub fn decode_message<S: Setting>(row: Message<Encoding>) -> Message<S>
     ensures { result ≡ each_value S.kind.decode row }
 {
-    match row {
-        Message::Query { client, op } => Message::Query { client, op },
-        Message::Store {
-            client,
-            op,
-            version,
-        } => Message::Store {
-            client,
-            op,
-            version: decode_version(version),
+    // The closure takes the kind along: no proof is made for a function that is passed and whose result alone names a type parameter.
+    let kind = PhantomData::<S>;
+    row.map(
+        move |bytes: Encoding| -> S
+            ensures { result ≡ S.kind.decode bytes }
+        {
+            let _: PhantomData<S> = kind;
+            S::decode(bytes)
         },
-        Message::Value {
-            replica,
-            client,
-            op,
-            version,
-        } => Message::Value {
-            replica,
-            client,
-            op,
-            version: decode_version(version),
-        },
-        Message::Ack {
-            replica,
-            client,
-            op,
-        } => Message::Ack {
-            replica,
-            client,
-            op,
-        },
-    }
+    )
 }

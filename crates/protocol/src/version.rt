@@ -1,17 +1,31 @@
 // A setting with its timestamp and its signature's tag.
 ghost use Rattle.std.specs.Prelude.{◌≡◌};
-ghost use Rattle.protocol.specs.Versions.{initial_version, genuine};
+ghost use Rattle.protocol.specs.Versions.{Computes, initial_version, genuine, with_value};
 
-use encodings::encoding::same;
 use settings::setting::Setting;
+use signatures::entry::Entry;
 use signatures::signatures::Signatures;
 
 /// A value, the timestamp that it was written under, and its signature's tag.
-#[derive(Clone, Copy)]
+#[derive(Clone, Copy, Debug, PartialEq, Eq)]
 pub struct Version<V> {
     pub timestamp: u32,
     pub value: V,
     pub tag: u32,
+}
+
+impl<V> Version<V> {
+    /// The version with what `f` makes of its value in the place of it.
+    pub(crate) fn map<W, F: FnOnce(V) -> W>(self, f: F) -> Version<W>
+        requires { F.IsAlwaysCallable f }
+        ensures { (g : V → W) → Computes (F.post f) g → result ≡ with_value g self }
+    {
+        Version {
+            timestamp: self.timestamp,
+            value: f(self.value),
+            tag: self.tag,
+        }
+    }
 }
 
 /// What holds before any write: the initial setting under timestamp 0.
@@ -30,8 +44,11 @@ pub fn is_genuine<S: Setting, K: Signatures>(signatures: &K, version: Version<S>
     ensures { result ≡ genuine S.kind (K.book signatures.now) version }
 {
     let encoding = version.value.encode();
-    if version.timestamp == 0 && version.tag == 0 && same(encoding, S::initial().encode()) {
-        return true;
-    }
-    signatures.verify(version.timestamp, encoding, version.tag)
+    let entry = Entry {
+        timestamp: version.timestamp,
+        encoding,
+        tag: version.tag,
+    };
+    let initial = entry.timestamp == 0 && entry.tag == 0 && encoding == S::initial().encode();
+    initial || signatures.verify(entry)
 }

@@ -65,26 +65,22 @@ fn agrees<P: QuorumSystem>(system: &P, replicas: u32, rows: &[Row]) -> bool {
     system.replicas() == replicas
 }
 
-fn number(refusal: Option<Refusal>) -> u8 {
-    match refusal {
-        Some(refusal) => refusal.code(),
-        None => 0,
-    }
-}
-
 #[test]
 fn thresholds(rt: HostRuntime) {
-    for (replicas, faults, code) in [
-        (4, 1, 0),
-        (3, 1, 3),
-        (32, 10, 0),
-        (32, 11, 3),
-        (0, 0, 1),
-        (33, 0, 1),
-        (u32::MAX, u32::MAX, 1),
-        (32, u32::MAX, 3),
+    for (replicas, faults, told) in [
+        (4, 1, Ok(())),
+        (3, 1, Err(3)),
+        (32, 10, Ok(())),
+        (32, 11, Err(3)),
+        (0, 0, Err(1)),
+        (33, 0, Err(1)),
+        (u32::MAX, u32::MAX, Err(1)),
+        (32, u32::MAX, Err(3)),
     ] {
-        assert_eq!(rt; number(Threshold::check(replicas, faults)), code);
+        assert_eq!(rt;
+            Threshold::check(replicas, faults).map_err(Refusal::code),
+            told
+        );
     }
     assert!(rt; agrees(&Threshold::new(4, 1), 4, &FOUR));
     assert!(rt; agrees(&Threshold::new(3, 1), 1, &ALONE));
@@ -95,12 +91,18 @@ fn lists(rt: HostRuntime) {
     let pair = ReplicaSet::of_bits(0b0011);
     let third = ReplicaSet::of_bits(0b0100);
     let all = [pair, third, ReplicaSet::of_bits(0b1000)];
-    assert_eq!(rt; number(FailProne::check(4, &all)), 3);
-    assert_eq!(rt; number(FailProne::check(4, &[pair, third])), 0);
-    assert_eq!(rt; number(FailProne::check(2, &[third])), 2);
-    assert_eq!(rt; number(FailProne::check(4, &[third; 16])), 0);
-    assert_eq!(rt; number(FailProne::check(4, &[third; 17])), 2);
-    assert_eq!(rt; number(FailProne::check(33, &[])), 1);
+    assert_eq!(rt; FailProne::check(4, &all).map_err(Refusal::code), Err(3));
+    assert_eq!(rt; FailProne::check(4, &[pair, third]), Ok(()));
+    assert_eq!(rt;
+        FailProne::check(2, &[third]).map_err(Refusal::code),
+        Err(2)
+    );
+    assert_eq!(rt; FailProne::check(4, &[third; 16]), Ok(()));
+    assert_eq!(rt;
+        FailProne::check(4, &[third; 17]).map_err(Refusal::code),
+        Err(2)
+    );
+    assert_eq!(rt; FailProne::check(33, &[]).map_err(Refusal::code), Err(1));
     assert!(rt; agrees(&FailProne::new(4, &[pair, third]), 4, &LISTED));
     assert!(rt; agrees(&FailProne::new(4, &all), 1, &ALONE));
 }
@@ -109,13 +111,10 @@ fn lists(rt: HostRuntime) {
 fn groups(rt: HostRuntime) {
     let four = Threshold::new(4, 1);
     let six = Threshold::new(6, 1);
+    assert_eq!(rt; Nested::<Threshold, Threshold>::check(&four, &four), Ok(()));
     assert_eq!(rt;
-        number(Nested::<Threshold, Threshold>::check(&four, &four)),
-        0
-    );
-    assert_eq!(rt;
-        number(Nested::<Threshold, Threshold>::check(&six, &six)),
-        1
+        Nested::<Threshold, Threshold>::check(&six, &six).map_err(Refusal::code),
+        Err(1)
     );
     assert!(rt; agrees(&Nested::new(four, four), 16, &SQUARE));
     assert!(rt; agrees(&Nested::new(six, six), 1, &ALONE));

@@ -1,6 +1,6 @@
 -- What the laws give their users: replicas outside a fault set. Assumes nothing.
 use Rattle.std.proofs.Common.{◌≡◌, ℕ, zero, suc, ◌<◌, Bool, true, false, not, ◌&&◌, ◌⊎◌, ap, ◌∙◌, inl, inr, ⊎_elim, arith}
-use Rattle.std.proofs.lemmas.Bool.{cases_Bool, cases_eq, both_ways, and_parts, and_from, not-true, not_from_false}
+use Rattle.std.proofs.lemmas.Bool.{cases_Bool, cases_eq, false_from_ne_true, both_ways, and_parts, not-true}
 use Rattle.replica_sets.specs.Sets.{has, Below, common, outside}
 use Rattle.replica_sets.proofs.Members.{in_common, in_outside}
 use Rattle.quorums.specs.Systems.{Quorums, QuorumLaws}
@@ -20,10 +20,8 @@ module _ (q : Quorums) (laws : QuorumLaws q) where
   -- a set that has all that two quorums have in common is no fault set
   pub common_not_fault : (a b c : ℕ) → q.quorum a ≡ true → q.quorum b ≡ true → ((i : ℕ) → has a i ≡ true → has b i ≡ true → has c i ≡ true) → q.fault c ≡ false
   common_not_fault a b c x y h =
-      ⊎_elim (λ (f : q.fault c ≡ true).
-      absurd (both_ways (q.fault (common a b)) (laws.meet a b x y) (laws.fault_downward (common a b) c f (λ i e. let p = in_common a b i e in h i p.0 p.1))))
-      (λ (f : q.fault c ≡ false). f)
-      (cases_Bool (q.fault c))
+      false_from_ne_true (q.fault c) (λ f.
+      both_ways (q.fault (common a b)) (laws.meet a b x y) (laws.fault_downward (common a b) c f (λ i e. let p = in_common a b i e in h i p.0 p.1)))
 
   -- two quorums share a replica outside any fault set
   pub common_correct : (a b c : ℕ) → q.quorum a ≡ true → q.quorum b ≡ true → q.fault c ≡ true → (i : ℕ) × (i < q.size) × (has a i ≡ true) × (has b i ≡ true) × (has c i ≡ false)
@@ -33,10 +31,7 @@ module _ (q : Quorums) (laws : QuorumLaws q) where
       let v = and_parts (has b r.0) (not (has c r.0)) u.1 in
       (r.0, r.1, u.0, v.0, not-true (has c r.0) v.1))
       (λ (r : (i : ℕ) → i < q.size → (has a i && (has b i && not (has c i))) ≡ false).
-      absurd (both_ways (q.fault c) (common_not_fault a b c x y (λ i u v.
-      ⊎_elim (λ (w : has c i ≡ true). w)
-      (λ (w : has c i ≡ false). absurd (both_ways (has a i && (has b i && not (has c i))) (r i (laws.quorum_below a x i u)) (and_from (has a i) (has b i && not (has c i)) u (and_from (has b i) (not (has c i)) v (not_from_false (has c i) w)))))
-      (cases_Bool (has c i)))) f))
+      absurd (both_ways (q.fault c) (common_not_fault a b c x y (λ i u v. grind (arith, r i (laws.quorum_below a x i u)))) f))
       (find q.size (λ i. has a i && (has b i && not (has c i))))
 
   -- a set of replicas that has every replica outside a fault set is a quorum

@@ -20,8 +20,7 @@ total_one zero = refl
 total_one (suc n) = omega (arith, total_one n)
 
 under : (b x y : Bool) → (b ≡ true → x ≡ y) → (b && x) ≡ (b && y)
-under true x y h = h refl
-under false x y h = refl
+under b x y h = grind arith
 
 module _ (n f : ℕ) (most : n ≤ 32) where
   size_below : (a : ℕ) → below n a ≡ true → weigh one n a ≡ size_of a

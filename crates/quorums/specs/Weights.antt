@@ -4,6 +4,7 @@ use Rattle.std.proofs.Math.Path.{refl}
 use native.Mathlib.Omega.{arith}
 use Rattle.std.proofs.Common.{pow_pos}
 use Rattle.std.proofs.lemmas.Bool.{lt-ltb, le-leb, lt-leb, leb-true, ltb-true, and_parts, and_from, and_right}
+use Rattle.std.proofs.lemmas.Bool.Decides.{nat_tests}
 use Rattle.replica_sets.specs.Sets.{has, Within, Below, below, common, outside, weigh}
 use Rattle.replica_sets.proofs.Members.{below_is, is_below, within_below, has_none, common_in, outside_in, outside_below}
 use Rattle.quorums.specs.Systems.{Quorums, QuorumLaws}
@@ -19,8 +20,7 @@ heavy w n f = record { size = n; quorum = λ a. below n a && nat_lt (total w n +
 
 module _ (w : ℕ → ℕ) where
   step_le : (k : ℕ) (p q : Bool) → (p ≡ true → q ≡ true) → cond p (w k) 0 ≤ cond q (w k) 0
-  step_le k true q h = rw (h refl) (omega arith)
-  step_le k false q h = omega arith
+  step_le k p q h = grind (arith, nat_tests)
 
   weigh_le : (n a b : ℕ) → Within a b → weigh w n a ≤ weigh w n b
   unfolding weigh
@@ -34,9 +34,7 @@ module _ (w : ℕ → ℕ) where
 
   -- what two sets have in common weighs at least what they weigh past the total
   step_meet : (k : ℕ) (p q r : Bool) → (p ≡ true → q ≡ true → r ≡ true) → cond p (w k) 0 + cond q (w k) 0 ≤ w k + cond r (w k) 0
-  step_meet k true true r h = rw (h refl refl) (omega arith)
-  step_meet k true false r h = omega arith
-  step_meet k false q r h = elim q as (λ v. 0 + cond v (w k) 0 ≤ w k + cond r (w k) 0) [ true ↦ omega arith | false ↦ omega arith ]
+  step_meet k p q r h = grind (arith, nat_tests)
 
   weigh_meet : (n a b : ℕ) → weigh w n a + weigh w n b ≤ total w n + weigh w n (common a b)
   unfolding weigh total
@@ -45,8 +43,7 @@ module _ (w : ℕ → ℕ) where
 
   -- a set and one that has all the others weigh at least the total
   step_rest : (k : ℕ) (p q : Bool) → (p ≡ false → q ≡ true) → w k ≤ cond p (w k) 0 + cond q (w k) 0
-  step_rest k true q h = omega arith
-  step_rest k false q h = rw (h refl) (omega arith)
+  step_rest k p q h = grind (arith, nat_tests)
 
   weigh_rest : (n a b : ℕ) → ((i : ℕ) → i < n → has a i ≡ false → has b i ≡ true) → total w n ≤ weigh w n a + weigh w n b
   unfolding weigh total

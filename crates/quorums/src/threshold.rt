@@ -9,7 +9,7 @@ use crate::refusal::Refusal;
 use replica_sets::replica_set::ReplicaSet;
 
 /// A number of replicas, of which any `faults` may be faulty together.
-#[derive(Clone, Copy)]
+#[derive(Clone, Copy, Debug, PartialEq, Eq)]
 pub struct Threshold {
     replicas: u32,
     faults: u32,
@@ -18,15 +18,15 @@ pub struct Threshold {
 
 impl Threshold {
     /// Why `new` would not make the system as asked for: a number of replicas that is not from 1 to 32, or not above three times `faults`.
-    pub fn check(replicas: u32, faults: u32) -> Option<Refusal>
+    pub fn check(replicas: u32, faults: u32) -> Result<(), Refusal>
         ensures { told result ≡ threshold_check replicas faults }
     {
-        if replicas < 1 || replicas > MOST_REPLICAS {
-            Some(Refusal::ReplicaCount)
+        if !(1..=MOST_REPLICAS).contains(&replicas) {
+            Err(Refusal::ReplicaCount)
         } else if replicas as u64 <= 3 * faults as u64 {
-            Some(Refusal::FaultBound)
+            Err(Refusal::FaultBound)
         } else {
-            None
+            Ok(())
         }
     }
 
@@ -35,7 +35,7 @@ impl Threshold {
         ensures replicas { result.replicas ≡ (if accepts (threshold_check replicas faults) then replicas else 1) }
         ensures faults { result.faults ≡ (if accepts (threshold_check replicas faults) then faults else 0) }
     {
-        if let Some(_) = Threshold::check(replicas, faults) {
+        if Threshold::check(replicas, faults).is_err() {
             return Threshold {
                 replicas: 1,
                 faults: 0,

@@ -1,5 +1,4 @@
 // Sets of replicas.
 #![tactic(auto)]
 
-mod masks;
 pub mod replica_set;

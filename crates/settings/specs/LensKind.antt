@@ -1,11 +1,12 @@
 -- Lens corrections as a kind of setting. Assumes nothing.
-use Rattle.std.specs.Prelude.{◌≡◌, ℕ, Bool, true, false, cond, List, pos, refl}
+use Rattle.std.specs.Prelude.{◌≡◌, ℕ, Bool, true, false, cond, List, Result, Ok, Err, pos, refl}
 use Rattle.std.proofs.lemmas.Bool.{and_parts}
 use Rattle.encodings.specs.Encodings.{octets, pack}
 use Rattle.settings.specs.Kinds.{Kind}
 use Rattle.settings.specs.Lens.{in_bounds, fields_at, fields_bytes, is_bytes, is_lens}
 use Rattle.settings.specs.declared.lens_correction.fields.LensFields.{LensFields}
 use Rattle.settings.specs.declared.lens_correction.LensCorrection.{LensCorrection}
+use Rattle.settings.specs.declared.lens_correction.error.OutOfBounds.{OutOfBounds}
 
 -- all zero
 abbrev pub no_fields : LensFields
@@ -27,6 +28,11 @@ decoded_bounded bs false e = refl
 -- the correction with these bytes, or the identity where they are no encoding
 abbrev pub lens_of : List ℕ → LensCorrection
 lens_of bs = record { fields = decoded_fields bs; bounded = decoded_bounded bs (is_lens bs) refl }
+
+-- the correction with these fields, or an error where one lies outside its bounds
+abbrev pub GivesCorrection : LensFields → Result LensCorrection OutOfBounds → Type 0
+GivesCorrection f (Ok l) = (in_bounds f ≡ true) × (l.fields ≡ f)
+GivesCorrection f (Err _) = in_bounds f ≡ false
 
 -- lens corrections as a kind of setting
 abbrev pub lens_kind : Kind LensCorrection

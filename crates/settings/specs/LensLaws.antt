@@ -33,12 +33,6 @@ limit_fits : (limit : ℕ) (z : ℤ) → limit < 2147483648 → nat_le (unsigned
 limit_fits limit (pos n) h k = record { sfits = omega (arith, leb-true n limit k) }
 limit_fits limit (negsuc n) h k = record { sfits = omega (arith, leb-true _ limit k) }
 
-coefficient_fits : (z : ℤ) → is_coefficient z ≡ true → FitsSigned w32 z
-coefficient_fits z k = limit_fits 1000000000 z (omega arith) k
-
-offset_fits : (z : ℤ) → is_offset z ≡ true → FitsSigned w32 z
-offset_fits z k = limit_fits 100000000 z (omega arith) k
-
 -- fields within their bounds fit
 bounded_fits : (f : LensFields) → in_bounds f ≡ true → Fitting f
 bounded_fits f h =
@@ -51,13 +45,13 @@ bounded_fits f h =
     let (across, down) = and_parts (is_offset f.centre_x) (is_offset f.centre_y) centre in
     record {
       band = omega (arith, leb-true f.band 63 band);
-      k1 = coefficient_fits f.k1 k1;
-      k2 = coefficient_fits f.k2 k2;
-      k3 = coefficient_fits f.k3 k3;
-      p1 = coefficient_fits f.p1 p1;
-      p2 = coefficient_fits f.p2 p2;
-      across = offset_fits f.centre_x across;
-      down = offset_fits f.centre_y down;
+      k1 = limit_fits 1000000000 f.k1 (omega arith) k1;
+      k2 = limit_fits 1000000000 f.k2 (omega arith) k2;
+      k3 = limit_fits 1000000000 f.k3 (omega arith) k3;
+      p1 = limit_fits 1000000000 f.p1 (omega arith) p1;
+      p2 = limit_fits 1000000000 f.p2 (omega arith) p2;
+      across = limit_fits 100000000 f.centre_x (omega arith) across;
+      down = limit_fits 100000000 f.centre_y (omega arith) down;
     }
 
 of_z_fits : (z : ℤ) → FitsSigned w32 z → of_z w32 z < 4294967296

@@ -1,5 +1,5 @@
 -- Shelf marks and their bytes. Assumes nothing.
-use Rattle.std.specs.Prelude.{◌≡◌, ℕ, zero, suc, ◌≤◌, true, false, List, [], ◌∷◌, ◌++◌, length, take, drop, replicate, ◌==◌, ◌≢◌, nat_le, refl}
+use Rattle.std.specs.Prelude.{◌≡◌, ℕ, zero, suc, ◌≤◌, true, false, List, [], ◌∷◌, ◌++◌, length, take, drop, replicate, ◌≢◌, nat_le, refl}
 use Rattle.std.proofs.Common.{sym, ◌∙◌, ap, arith, length-append, length-drop, leb-true, ne_eqb}
 use mathlib.Core.HLevel.{is_prop→PathP}
 use Rattle.std.proofs.Math.Bool.{Bool-set}
@@ -26,13 +26,6 @@ mark_other bs h = mark_same _ _ (cond-false (is_mark bs) bs dash_bytes h)
 mark_back : (m : ShelfMark) → mark_of m.bytes ≡ m
 mark_back m = mark_same (mark_of m.bytes) m (mark_forth m.bytes m.marked)
 
--- one byte more of a text's length
-pub text_ends : (b : ℕ) (bs : List ℕ) → b ≡ 0 → text_length (b ∷ bs) ≡ 0
-text_ends b bs e = simp e
-
-pub text_goes_on : (b : ℕ) (bs : List ℕ) → (b ≢ 0) → text_length (b ∷ bs) ≡ suc (text_length bs)
-text_goes_on b bs h = cond-false (b == 0) _ _ (ne_eqb b 0 h)
-
 -- zeros have no text
 zeros_length : (k n : ℕ) → text_length (drop k (replicate n 0)) ≡ 0
 zeros_length zero zero = refl
@@ -48,7 +41,9 @@ padded_length : (t z : List ℕ) → all_visible t ≡ true → text_length z �
 padded_length [] z h e = e
 padded_length (b ∷ t) z h e =
     let (v, vs) = and_parts (visible b) (all_visible t) h in
-    text_goes_on b (t ++ z) (visible_not_zero b v) ∙ ap suc (padded_length t z vs e)
+    let seen = ne_eqb b 0 (visible_not_zero b v) in
+    let rest = padded_length t z vs e in
+    simp seen (omega (arith, rest))
 
 -- what a text's test says of it
 text_parts : (t : List ℕ) → is_text t ≡ true → (length t ≤ 32) × (all_visible t ≡ true)
@@ -58,20 +53,16 @@ text_parts t h =
     (leb-true (length t) 32 few, seen)
 
 -- the text of a padded text
-text_pad : (t : List ℕ) → is_text t ≡ true → text_of (pad t) ≡ t
+pub text_pad : (t : List ℕ) → is_text t ≡ true → text_of (pad t) ≡ t
 text_pad t h =
     let z = drop (length t) (replicate 32 0) in
     ap (λ n. take n (pad t)) (padded_length t z (text_parts t h).1 (zeros_length (length t) 32)) ∙ take-append_seam t z
 
 -- a padded text is a mark
-pad_mark : (t : List ℕ) → is_text t ≡ true → is_mark (pad t) ≡ true
+pub pad_mark : (t : List ℕ) → is_text t ≡ true → is_mark (pad t) ≡ true
 pad_mark t h =
     let e = text_pad t h in
     and_from (is_text (text_of (pad t))) _ (ap is_text e ∙ h) ((same_decides (pad t) (pad (text_of (pad t)))).1 (ap pad (sym e)))
-
--- a padded text is decoded to a mark with that text
-pub text_back : (t : List ℕ) → is_text t ≡ true → text_of (mark_of (pad t)).bytes ≡ t
-text_back t h = ap text_of (mark_forth (pad t) (pad_mark t h)) ∙ text_pad t h
 
 pad_length : (t : List ℕ) → length t ≤ 32 → length (pad t) ≡ 32
 pad_length t h = simp (length-append, length-drop) (omega arith)

@@ -1,5 +1,6 @@
 -- The bytes of a shelf mark. Assumes nothing.
-use Rattle.std.specs.Prelude.{ℕ, suc, Bool, true, cond, ◌&&◌, List, [], ◌∷◌, ◌++◌, length, take, drop, replicate, ◌==◌, nat_le}
+use Rattle.std.specs.Prelude.{ℕ, Bool, ◌&&◌, List, ◌++◌, length, take, drop, replicate, ◌==◌, nat_le}
+use Rattle.std.specs.List.{list_all, position_or_len}
 use Rattle.encodings.specs.Encodings.{same_bytes}
 
 -- a visible character of ASCII
@@ -8,8 +9,7 @@ visible b = nat_le 0x21 b && nat_le b 0x7E
 
 -- visible characters only
 abbrev pub all_visible : List ℕ → Bool
-all_visible [] = true
-all_visible (b ∷ bs) = visible b && all_visible bs
+all_visible bs = list_all visible bs
 
 -- 1 to 32 visible characters
 abbrev pub is_text : List ℕ → Bool
@@ -17,8 +17,7 @@ is_text t = nat_le 1 (length t) && (nat_le (length t) 32 && all_visible t)
 
 -- how many bytes stand before the first zero
 abbrev pub text_length : List ℕ → ℕ
-text_length [] = 0
-text_length (b ∷ bs) = cond (b == 0) 0 (suc (text_length bs))
+text_length bs = position_or_len (λ b. b == 0) bs
 
 -- the bytes before the first zero
 abbrev pub text_of : List ℕ → List ℕ

@@ -1,5 +1,5 @@
 -- Rows of bytes as big-endian words of four bytes. Assumes nothing.
-use Rattle.std.specs.Prelude.{ℕ, ◌+◌, ◌*◌, ◌/◌, ◌%◌, Bool, true, false, ◌&&◌, List, [], ◌∷◌, ◌++◌, ℤ, nat_lt, slice_index, slice_set}
+use Rattle.std.specs.Prelude.{ℕ, ◌+◌, ◌*◌, ◌/◌, ◌%◌, Bool, true, ◌&&◌, List, [], ◌∷◌, ◌++◌, ℤ, nat_lt, slice_index}
 use Rattle.std.specs.Int.{w32}
 use Rattle.std.proofs.Common.{to_z}
 
@@ -31,11 +31,6 @@ encode_word n = (n / 16777216 % 256) ∷ (n / 65536 % 256) ∷ (n / 256 % 256) �
 abbrev pub encode_words : List ℕ → List ℕ
 encode_words [] = []
 encode_words (w ∷ ws) = encode_word w ++ encode_words ws
-
--- a row of bytes with a word put at a place
-abbrev pub put_word : List ℕ → ℕ → ℕ → List ℕ
-put_word bs place n =
-    slice_set (slice_set (slice_set (slice_set bs (4 * place) (n / 16777216 % 256)) (4 * place + 1) (n / 65536 % 256)) (4 * place + 2) (n / 256 % 256)) (4 * place + 3) (n % 256)
 
 -- whether each is a byte
 abbrev pub all_bytes : List ℕ → Bool

@@ -7,11 +7,12 @@ use fields::LensFields;
 mod accessors;
 mod bounds;
 pub mod codec;
+pub mod error;
 pub mod fields;
 mod words;
 
 /// The correction of a lens, every field within its bounds.
-#[derive(Clone, Copy)]
+#[derive(Clone, Copy, Debug, PartialEq, Eq)]
 pub struct LensCorrection {
     fields: LensFields,
     ghost bounded: { in_bounds fields ≡ true },

@@ -4,10 +4,11 @@ ghost use Rattle.settings.specs.Marks.{is_mark};
 
 pub mod codec;
 pub mod display;
+pub mod error;
 mod text;
 
 /// 1 to 32 visible characters of ASCII, kept with zeros after them.
-#[derive(Clone, Copy)]
+#[derive(Clone, Copy, Debug, PartialEq, Eq)]
 pub struct ShelfMark {
     bytes: [u8; 32],
     ghost marked: { is_mark bytes ≡ true },

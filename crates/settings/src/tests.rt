@@ -1,8 +1,10 @@
 // Every bound and its neighbour, and one example of each kind.
 use crate::lens_correction::LensCorrection;
+use crate::lens_correction::error::OutOfBounds;
 use crate::lens_correction::fields::LensFields;
 use crate::setting::Setting;
 use crate::shelf_mark::ShelfMark;
+use crate::shelf_mark::error::NoShelfMark;
 use encodings::encoding::Encoding;
 use std::process::Abort;
 use std::test::Fail;
@@ -23,14 +25,12 @@ const WORDS: [(usize, usize, u32, bool); 10] = [
 
 /// Zeros but for one word.
 fn with_word(place: usize, word: u32) -> Encoding {
-    let mut bytes = [0; 32];
+    let mut words = [[0; 4]; 8];
     if place < 8 {
-        let [a, b, c, d] = word.to_be_bytes();
-        bytes[4 * place] = a;
-        bytes[4 * place + 1] = b;
-        bytes[4 * place + 2] = c;
-        bytes[4 * place + 3] = d;
+        words[place] = word.to_be_bytes();
     }
+    let mut bytes = [0; 32];
+    bytes.copy_from_slice(words.as_flattened());
     bytes
 }
 
@@ -57,7 +57,7 @@ fn check_text(rt: &impl Abort, text: &[u8], passes: bool) {
         bytes[..text.len()].copy_from_slice(text);
         check_bytes::<ShelfMark>(rt, bytes, passes);
     }
-    assert!(rt; ShelfMark::from_text(text).is_some() == passes);
+    assert!(rt; ShelfMark::try_from(text).is_ok() == passes);
 }
 
 #[test]
@@ -72,7 +72,7 @@ fn mark_bounds(rt: HostRuntime) {
     check_text(&rt, b"0123456789abcdef0123456789ABCDEF", true);
     check_text(&rt, b"0123456789abcdef0123456789ABCDE\x7F", false);
     check_text(&rt, b"0123456789abcdef0123456789ABCDEFG", false);
-    assert!(rt; ShelfMark::from_text(b"A\0").is_none());
+    assert!(rt; ShelfMark::try_from(b"A\0".as_slice()) == Err(NoShelfMark));
 }
 
 #[test]
@@ -87,18 +87,21 @@ fn examples(rt: HostRuntime) -> Result<(), Fail> {
         centre_x: 1500,
         centre_y: -250,
     };
-    let Some(lens) = LensCorrection::new(fields) else {
-        return Err(Fail::new("refused fields"));
-    };
+    let lens = LensCorrection::try_from(fields)?;
     assert!(rt;
         lens.encode()
             == *b"\0\0\0\x05\xFF\xFF\xFF\xFF\0\0\0\x02\xFF\xFF\xFF\0\0\x01\0\0\xC4\x65\x36\0\0\0\x05\xDC\xFF\xFF\xFF\x06"
     );
-    let Some(mark) = ShelfMark::from_text(b"QC-417/b") else {
-        return Err(Fail::new("refused text"));
-    };
+    let mark = ShelfMark::try_from(b"QC-417/b".as_slice())?;
     assert!(rt; mark.encode() == *b"QC-417/b\0\0\0\0\0\0\0\0\0\0\0\0\0\0\0\0\0\0\0\0\0\0\0\0");
     let shown = format!(in rt.alloc(); "{mark}")?;
     assert!(rt; shown.as_str() == "QC-417/b");
+    let beyond = LensFields { band: 64, ..fields };
+    assert!(rt; LensCorrection::try_from(beyond) == Err(OutOfBounds));
+    let shown = format!(in rt.alloc(); "{}; {}", OutOfBounds, NoShelfMark)?;
+    assert!(rt;
+        shown.as_str()
+            == "a field of the lens correction lies outside its bounds; a shelf mark is 1 to 32 visible characters"
+    );
     Ok(())
 }

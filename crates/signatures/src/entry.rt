@@ -2,7 +2,7 @@
 use encodings::encoding::Encoding;
 
 /// What was signed, and the tag that the scheme gave it.
-#[derive(Clone, Copy)]
+#[derive(Clone, Copy, Debug, PartialEq, Eq, Default)]
 pub struct Entry {
     pub timestamp: u32,
     pub encoding: Encoding,

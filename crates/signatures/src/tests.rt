@@ -3,7 +3,7 @@ use crate::entry::Entry;
 use crate::inline_signer::InlineSigner;
 use crate::ledger::Ledger;
 use crate::signatures::Signatures;
-use encodings::encoding::{Encoding, blank, same};
+use encodings::encoding::{Encoding, blank};
 use std::process::Abort;
 use std::test::Fail;
 
@@ -14,13 +14,22 @@ fn ending(byte: u8) -> Encoding {
     encoding
 }
 
+/// An entry of such an encoding.
+fn entry(timestamp: u32, byte: u8, tag: u32) -> Entry {
+    Entry {
+        timestamp,
+        encoding: ending(byte),
+        tag,
+    }
+}
+
 /// Signs in order, and compares each tag, or refusal, and what is left.
 fn signs<K: Signatures>(rt: &impl Abort, scheme: &mut K, cases: &[(u32, Option<u32>)]) {
-    for (timestamp, tag) in cases {
+    for &(timestamp, tag) in cases {
         let free = scheme.free();
         let entries = scheme.entries();
-        assert_eq!(rt; scheme.sign(*timestamp, ending(7)), *tag);
-        let used = if tag.is_some() { 1 } else { 0 };
+        assert_eq!(rt; scheme.sign(timestamp, ending(7)), tag);
+        let used = usize::from(tag.is_some());
         assert_eq!(rt; scheme.entries(), entries.wrapping_add(used));
         assert_eq!(rt; scheme.free(), free.wrapping_sub(used));
     }
@@ -28,12 +37,12 @@ fn signs<K: Signatures>(rt: &impl Abort, scheme: &mut K, cases: &[(u32, Option<u
 
 /// Asks a scheme about changed entries, one part at a time.
 fn verifies<K: Signatures>(rt: &impl Abort, scheme: &K, timestamp: u32, tag: u32) {
-    assert!(rt; scheme.verify(timestamp, ending(7), tag));
-    assert!(rt; !scheme.verify(timestamp, ending(8), tag));
-    assert!(rt; !scheme.verify(timestamp, ending(7), tag ^ 1));
-    assert!(rt; !scheme.verify(timestamp, ending(7), tag ^ 0x8000_0000));
-    assert!(rt; !scheme.verify(timestamp ^ 1, ending(7), tag));
-    assert!(rt; !scheme.verify(0, blank(), 0));
+    assert!(rt; scheme.verify(entry(timestamp, 7, tag)));
+    assert!(rt; !scheme.verify(entry(timestamp, 8, tag)));
+    assert!(rt; !scheme.verify(entry(timestamp, 7, tag ^ 1)));
+    assert!(rt; !scheme.verify(entry(timestamp, 7, tag ^ 0x8000_0000)));
+    assert!(rt; !scheme.verify(entry(timestamp ^ 1, 7, tag)));
+    assert!(rt; !scheme.verify(Entry::default()));
 }
 
 /// Signs timestamps 1, 2, .. under tags 0, 1, .. while slots are free, and then no more.
@@ -41,9 +50,8 @@ fn fills<K: Signatures>(rt: &impl Abort, scheme: &mut K, slots: usize) {
     assert_eq!(rt; scheme.free(), slots);
     for tag in 0..100 {
         let fits = (tag as usize) < slots;
-        let expected = if fits { Some(tag) } else { None };
-        assert_eq!(rt; scheme.sign(tag + 1, ending(7)), expected);
-        assert_eq!(rt; scheme.verify(tag + 1, ending(7), tag), fits);
+        assert_eq!(rt; scheme.sign(tag + 1, ending(7)), fits.then_some(tag));
+        assert_eq!(rt; scheme.verify(entry(tag + 1, 7, tag)), fits);
     }
     assert_eq!(rt; scheme.free(), 0);
     assert_eq!(rt; scheme.entries(), slots);
@@ -92,6 +100,19 @@ fn an_inline_signer_tags_by_timestamp(rt: HostRuntime) {
 }
 
 #[test]
+fn a_ledger_is_made_with_room(rt: HostRuntime) -> Result<(), Fail> {
+    let mut ledger = Ledger::with_room(rt.alloc(), 3)?;
+    assert_eq!(rt; ledger.entries(), 0);
+    assert!(rt; ledger.free() >= 3);
+    signs(
+        &rt,
+        &mut ledger,
+        &[(5, Some(0)), (6, Some(1)), (7, Some(2))],
+    );
+    Ok(())
+}
+
+#[test]
 fn a_full_book_refuses(rt: HostRuntime) -> Result<(), Fail> {
     fills(&rt, &mut InlineSigner::new(4_294_967_295), 64);
     fills(&rt, &mut Ledger::new(Vec::new(rt.alloc())), 0);
@@ -103,10 +124,10 @@ fn a_full_book_refuses(rt: HostRuntime) -> Result<(), Fail> {
     let memory = ledger.into_memory();
     assert_eq!(rt; memory.capacity(), slots);
     assert_eq!(rt; memory.len(), slots);
-    for (place, entry) in memory.as_slice().iter().enumerate() {
+    for (place, entry) in memory.iter().enumerate() {
         assert_eq!(rt; entry.timestamp as usize, place + 1);
         assert_eq!(rt; entry.tag as usize, place);
-        assert!(rt; same(entry.encoding, ending(7)));
+        assert_eq!(rt; entry.encoding, ending(7));
     }
     fills(&rt, &mut Ledger::new(memory), slots);
     Ok(())

@@ -2,17 +2,17 @@
 use crate::bytes::random_setting;
 use crate::forgeries::random_forgery;
 use crate::generator::Generator;
-use crate::rows::{Tables, count_of, first_rows, scribble};
+use crate::rows::{Rows, count_of, scribble};
 use crate::trial::Trial;
 use atomicity::call::Call;
 use atomicity::calling::make_call;
 use cluster::cluster::Cluster;
-use cluster::making::TableSizes;
+use cluster::tables::TableSizes;
 use quorums::quorum_system::QuorumSystem;
 use settings::setting::Setting;
 use signatures::signatures::Signatures;
 
-/// The call's code in the digest.
+/// The call's code in the digest, a number that the format of the digest has.
 fn code_of<S>(call: &Call<S>) -> u32 {
     match call {
         Call::Write(_) => 1,
@@ -52,10 +52,10 @@ fn random_replica(generator: &mut Generator, replicas: u32) -> u32 {
 fn random_call<S: Setting, P: QuorumSystem, K>(
     generator: &mut Generator,
     cluster: &Cluster<S, P, K>,
-    tables: &Tables,
+    rows: &Rows,
 ) -> Call<S> {
     let in_flight = cluster.messages_in_flight();
-    let readers = tables.readers.len();
+    let readers = rows.readers.len();
     match generator.below(32) {
         0..=1 => Call::Write(random_setting(generator)),
         2..=5 => Call::Read(random_reader(generator, readers)),
@@ -71,7 +71,7 @@ fn random_call<S: Setting, P: QuorumSystem, K>(
             generator,
             cluster.faulty(),
             cluster.writer(),
-            tables,
+            rows,
         )),
         27..=29 => Call::DropMessage(random_message(generator, in_flight)),
         _ => Call::Collect(random_reader(generator, readers)),
@@ -79,44 +79,36 @@ fn random_call<S: Setting, P: QuorumSystem, K>(
 }
 
 /// How many rows of each table are passed: all, or now and then one less of one table.
-fn random_passed(generator: &mut Generator, sizes: TableSizes) -> TableSizes {
-    let mut passed = sizes;
+fn random_passed(generator: &mut Generator, mut sizes: TableSizes) -> TableSizes {
     if generator.chance(64) {
-        match generator.below(4) {
-            0 => passed.replicas = sizes.replicas.saturating_sub(1),
-            1 => passed.readers = sizes.readers.saturating_sub(1),
-            2 => passed.messages = sizes.messages.saturating_sub(1),
-            _ => passed.lines = sizes.lines.saturating_sub(1),
-        }
+        let size = match generator.below(4) {
+            0 => &mut sizes.replicas,
+            1 => &mut sizes.readers,
+            2 => &mut sizes.messages,
+            _ => &mut sizes.lines,
+        };
+        *size = size.saturating_sub(1);
     }
-    passed
+    sizes
 }
 
 /// A random call, with what an adversary does before it.
 pub(crate) fn play_call<S: Setting, P: QuorumSystem, K: Signatures>(
     trial: &mut Trial,
     cluster: &mut Cluster<S, P, K>,
-    tables: &mut Tables,
+    rows: &mut Rows,
 ) {
     if trial.generator.chance(16) {
         scribble(
             &mut trial.generator,
-            tables,
+            rows,
             cluster.system().replicas(),
             cluster.messages_in_flight(),
             cluster.journal_lines(),
         );
     }
-    let passed = random_passed(&mut trial.generator, tables.sizes());
-    let call = random_call(&mut trial.generator, cluster, tables);
+    let passed = random_passed(&mut trial.generator, rows.tables().sizes());
+    let call = random_call(&mut trial.generator, cluster, rows);
     trial.digest.mix(code_of(&call));
-    let answer = make_call(
-        cluster,
-        first_rows(tables.replicas.as_mut_slice(), passed.replicas),
-        first_rows(tables.readers.as_mut_slice(), passed.readers),
-        first_rows(tables.messages.as_mut_slice(), passed.messages),
-        first_rows(tables.lines.as_mut_slice(), passed.lines),
-        call,
-    );
-    trial.note(answer);
+    trial.note(make_call(cluster, &mut rows.tables().first(passed), call));
 }

@@ -1,11 +1,11 @@
 // The digest of all answers and tables.
-ghost use Rattle.std.specs.Prelude.{◌≡◌, ◌<◌};
+ghost use Rattle.std.specs.Prelude.{◌≡◌};
 ghost use Rattle.stress.specs.Mixing.{mixed};
 
 use cluster::journal::Line;
 use cluster::reader::Reader;
 use encodings::encoding::Encoding;
-use protocol::client::{Client, Phase};
+use protocol::client::Client;
 use protocol::message::Message;
 use protocol::version::Version;
 
@@ -19,28 +19,6 @@ const FACTOR: u64 = 1_099_511_628_211;
 #[derive(Drop)]
 pub(crate) struct Digest {
     value: u64,
-}
-
-/// The word of 4 bytes at a place from 0 to 7.
-fn word_at(bytes: &Encoding, place: usize) -> u32
-    requires { place < 8 }
-{
-    let start = 4 * place;
-    u32::from_be_bytes([
-        bytes[start],
-        bytes[start + 1],
-        bytes[start + 2],
-        bytes[start + 3],
-    ])
-}
-
-/// The number of a phase.
-fn phase_number(phase: Phase) -> u32 {
-    match phase {
-        Phase::Idle => 0,
-        Phase::Querying => 1,
-        Phase::Storing => 2,
-    }
 }
 
 impl Digest {
@@ -77,10 +55,11 @@ impl Digest {
         self.mix((rows & 0xffff_ffff) as u32);
     }
 
-    /// Mixes an encoding in.
+    /// Mixes an encoding in, as big-endian words.
     pub(crate) fn mix_encoding(&mut self, encoding: &Encoding) {
-        for place in 0..8 {
-            self.mix(word_at(encoding, place));
+        let (words, _) = encoding.as_chunks();
+        for word in words {
+            self.mix(u32::from_be_bytes(*word));
         }
     }
 
@@ -93,7 +72,7 @@ impl Digest {
 
     /// Mixes a client in.
     pub(crate) fn mix_client(&mut self, client: &Client) {
-        self.mix(phase_number(client.phase));
+        self.mix(client.phase as u32);
         self.mix(client.op);
         self.mix(client.heard.bits());
         self.mix_version(&client.best);
@@ -111,7 +90,7 @@ impl Digest {
         }
     }
 
-    /// Mixes a message in.
+    /// Mixes a message in: first its kind, by a number that the format of the digest has.
     pub(crate) fn mix_message(&mut self, message: &Message<Encoding>) {
         match *message {
             Message::Query { client, op } => self.mix_all(&[1, client, op]),

@@ -1,7 +1,7 @@
 // Random versions, and replies that are forged with them.
-use crate::bytes::random_setting;
+use crate::bytes::random_row;
 use crate::generator::Generator;
-use crate::rows::{Tables, count_of};
+use crate::rows::{Rows, count_of};
 use cluster::reader::Reader;
 use encodings::encoding::Encoding;
 use protocol::client::Client;
@@ -10,18 +10,6 @@ use protocol::message::Message;
 use protocol::version::{Version, initial_version};
 use replica_sets::replica_set::ReplicaSet;
 use settings::setting::Setting;
-
-/// A version of any setting, seldom a genuine one.
-fn random_new_version<S: Setting>(generator: &mut Generator) -> Version<S> {
-    let timestamp = generator.below(5);
-    let value = random_setting(generator);
-    let tag = generator.below(5);
-    Version {
-        timestamp,
-        value,
-        tag,
-    }
-}
 
 /// A version that a replica keeps, of `later` timestamps more.
 fn random_kept_version<S: Setting>(
@@ -37,14 +25,14 @@ fn random_kept_version<S: Setting>(
     decode_version(row)
 }
 
-/// A version.
+/// A version: the initial one, a random one that is seldom genuine, or one that a replica keeps.
 fn random_version<S: Setting>(
     generator: &mut Generator,
     replicas: &[Version<Encoding>],
 ) -> Version<S> {
     match generator.below(4) {
         0 => initial_version(),
-        1 => random_new_version(generator),
+        1 => decode_version(random_row(generator)),
         2 => random_kept_version(generator, replicas, 0),
         _ => random_kept_version(generator, replicas, 1),
     }
@@ -52,13 +40,10 @@ fn random_version<S: Setting>(
 
 /// The first faulty replica from `start` on, and round again; `start` itself where none is faulty.
 fn faulty_from(faulty: ReplicaSet, start: u32) -> u32 {
-    for step in 0..32 {
-        let replica = start.wrapping_add(step) % 32;
-        if faulty.contains(replica) {
-            return replica;
-        }
-    }
-    start
+    (0..32)
+        .map(|step| start.wrapping_add(step) % 32)
+        .find(|replica| faulty.contains(*replica))
+        .unwrap_or(start)
 }
 
 /// The replica that a forged message comes from, mostly a faulty one.
@@ -72,14 +57,11 @@ fn random_forger(generator: &mut Generator, faulty: ReplicaSet) -> u32 {
 
 /// The operation of a client; 1 where there is no such client.
 fn op_of(writer: Client, readers: &[Reader], client: u32) -> u32 {
-    if client == 0 {
-        return writer.op;
-    }
-    let place = client as usize - 1;
-    if place < readers.len() {
-        readers[place].client.op
-    } else {
-        1
+    match client.checked_sub(1) {
+        Some(place) => readers
+            .get(place as usize)
+            .map_or(1, |reader| reader.client.op),
+        None => writer.op,
     }
 }
 
@@ -102,10 +84,10 @@ pub(crate) fn random_forgery<S: Setting>(
     generator: &mut Generator,
     faulty: ReplicaSet,
     writer: Client,
-    tables: &Tables,
+    rows: &Rows,
 ) -> Message<S> {
-    let replicas = tables.replicas.as_slice();
-    let readers = tables.readers.as_slice();
+    let replicas = rows.replicas.as_slice();
+    let readers = rows.readers.as_slice();
     let replica = random_forger(generator, faulty);
     let client = generator.below(count_of(readers.len()).saturating_add(2));
     let op = random_forged_op(generator, writer, readers, client);

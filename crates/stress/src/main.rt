@@ -20,32 +20,26 @@ use std::env;
 use trial::Trial;
 
 /// What is asked for: the seed, how many rounds, and after how many of them a line is printed.
-#[derive(Clone, Copy)]
+#[derive(Clone, Copy, Debug, PartialEq, Eq)]
 struct Plan {
     seed: u64,
     rounds: u64,
     interval: u64,
 }
 
-/// The number that the word stands for, or `otherwise` where there is no word.
-fn number_or(word: Option<String>, otherwise: u64) -> anyhow::Result<u64> {
-    match word {
-        Some(text) => Ok(text.as_str().parse::<u64>()?),
-        None => Ok(otherwise),
-    }
-}
-
 /// The plan of the program's arguments.
 fn plan_of(rt: &HostRuntime) -> anyhow::Result<Plan> {
     let mut words = env::args(rt)?;
     let _name = words.next();
-    let seed = number_or(words.next(), 1)?;
-    let rounds = number_or(words.next(), 64)?;
-    let interval = number_or(words.next(), 8)?;
+    let mut number = |otherwise| {
+        words
+            .next()
+            .map_or(Ok(otherwise), |word| word.as_str().parse())
+    };
     Ok(Plan {
-        seed,
-        rounds,
-        interval,
+        seed: number(1)?,
+        rounds: number(64)?,
+        interval: number(8)?,
     })
 }
 
@@ -73,6 +67,5 @@ fn run(rt: &HostRuntime) -> anyhow::Result<()> {
 }
 
 fn main(rt: HostRuntime) -> anyhow::Result<()> {
-    let ran = run(&rt);
-    ran
+    run(&rt)
 }

@@ -2,20 +2,10 @@
 use crate::bytes::random_bytes;
 use crate::generator::Generator;
 use crate::trial::Trial;
-use cluster::making::TableSizes;
+use cluster::tables::TableSizes;
 use quorums::quorum_system::QuorumSystem;
 use replica_sets::replica_set::ReplicaSet;
-use signatures::entry::Entry;
-use signatures::ledger::Ledger;
 use signatures::signatures::Signatures;
-use std::alloc::{AllocError, Global};
-
-/// A ledger for so many entries.
-pub(crate) fn ledger_of(heap: Global, entries: usize) -> Result<Ledger, AllocError> {
-    let mut memory: Vec<Entry> = Vec::new(heap);
-    memory.reserve_exact(entries)?;
-    Ok(Ledger::new(memory))
-}
 
 /// How many readers there are, now and then too few or too many.
 pub(crate) fn random_reader_count(generator: &mut Generator) -> usize {
@@ -27,15 +17,16 @@ pub(crate) fn random_reader_count(generator: &mut Generator) -> usize {
 }
 
 /// The sizes with one of them wrong.
-fn random_misfit(generator: &mut Generator, sizes: TableSizes) -> TableSizes {
-    let mut misfit = sizes;
+///
+/// `random_passed` chooses a size by the same numbers, but what becomes of it differs with the size here: one function for both is no plainer.
+fn random_misfit(generator: &mut Generator, mut sizes: TableSizes) -> TableSizes {
     match generator.below(4) {
-        0 => misfit.replicas = sizes.replicas.saturating_add(1),
-        1 => misfit.readers = sizes.readers.saturating_add(1),
-        2 => misfit.messages = if generator.below(2) == 0 { 0 } else { 4097 },
-        _ => misfit.lines = if generator.below(2) == 0 { 1 } else { 8193 },
+        0 => sizes.replicas = sizes.replicas.saturating_add(1),
+        1 => sizes.readers = sizes.readers.saturating_add(1),
+        2 => sizes.messages = if generator.below(2) == 0 { 0 } else { 4097 },
+        _ => sizes.lines = if generator.below(2) == 0 { 1 } else { 8193 },
     }
-    misfit
+    sizes
 }
 
 /// The sizes of the tables for so many replicas and readers; now and then one of them is wrong.
@@ -45,13 +36,11 @@ pub(crate) fn random_sizes(
     readers: usize,
 ) -> TableSizes {
     let most_places = if generator.chance(8) { 4096 } else { 64 };
-    let messages = 1 + generator.below(most_places) as usize;
-    let lines = 2 + generator.below(126) as usize;
     let sizes = TableSizes {
         replicas,
         readers,
-        messages,
-        lines,
+        messages: 1 + generator.below(most_places) as usize,
+        lines: 2 + generator.below(126) as usize,
     };
     if generator.chance(16) {
         random_misfit(generator, sizes)

@@ -31,13 +31,10 @@ fn random_completed(generator: &mut Generator) -> Option<Completed> {
     if generator.chance(2) {
         return None;
     }
-    let op = generator.below(65_536);
-    let timestamp = generator.below(5);
-    let encoding = random_bytes(generator);
     Some(Completed {
-        op,
-        timestamp,
-        encoding,
+        op: generator.below(65_536),
+        timestamp: generator.below(5),
+        encoding: random_bytes(generator),
     })
 }
 
@@ -57,19 +54,23 @@ pub(crate) fn mostly_below(
     }
 }
 
-/// A reader's row.
-pub(crate) fn random_reader_row(generator: &mut Generator, replicas: u32) -> Reader {
+/// A client as a reader's row holds it.
+fn random_client(generator: &mut Generator, replicas: u32) -> Client {
     let phase = random_phase(generator);
     let op = random_op(generator);
-    let mask = generator.mask();
-    let heard = mostly_below(generator, 4, ReplicaSet::of_bits(mask), replicas);
-    let best = random_row(generator);
-    let client = Client {
+    let heard = ReplicaSet::of_bits(generator.mask());
+    Client {
         phase,
         op,
-        heard,
-        best,
-    };
-    let completed = random_completed(generator);
-    Reader { client, completed }
+        heard: mostly_below(generator, 4, heard, replicas),
+        best: random_row(generator),
+    }
+}
+
+/// A reader's row.
+pub(crate) fn random_reader_row(generator: &mut Generator, replicas: u32) -> Reader {
+    Reader {
+        client: random_client(generator, replicas),
+        completed: random_completed(generator),
+    }
 }

@@ -1,10 +1,10 @@
-// The four tables that come along with each call.
+// The rows of the four tables that come along with each call.
 use crate::bytes::{random_line, random_message_row, random_row};
 use crate::generator::Generator;
 use crate::readers::random_reader_row;
 use cluster::journal::Line;
-use cluster::making::TableSizes;
 use cluster::reader::Reader;
+use cluster::tables::{TableSizes, Tables};
 use encodings::encoding::{Encoding, blank};
 use protocol::client::{Client, Phase};
 use protocol::message::Message;
@@ -12,9 +12,11 @@ use protocol::version::Version;
 use replica_sets::replica_set::ReplicaSet;
 use std::alloc::{AllocError, Global};
 
-/// The four tables.
+/// The rows of the four tables.
+///
+/// `measure` has such rows of its own: what they hold at first differs, and one type for both would be no plainer than four fields.
 #[derive(Drop)]
-pub(crate) struct Tables {
+pub(crate) struct Rows {
     pub replicas: Vec<Version<Encoding>>,
     pub readers: Vec<Reader>,
     pub messages: Vec<Message<Encoding>>,
@@ -43,30 +45,24 @@ fn stale_reader() -> Reader {
     }
 }
 
-impl Tables {
-    /// Tables of these sizes, with what they hold before a cluster is made.
-    pub(crate) fn new(heap: Global, sizes: TableSizes) -> Result<Tables, AllocError> {
-        let line = Line {
-            kind: 0,
-            client: 0,
-            op: 0,
-            timestamp: 0,
-        };
-        Ok(Tables {
+impl Rows {
+    /// Rows for tables of these sizes, with what they hold before a cluster is made.
+    pub(crate) fn new(heap: Global, sizes: TableSizes) -> Result<Rows, AllocError> {
+        Ok(Rows {
             replicas: vec![in heap; blank_row(7, 7); sizes.replicas]?,
             readers: vec![in heap; stale_reader(); sizes.readers]?,
             messages: vec![in heap; Message::Query { client: 0, op: 0 }; sizes.messages]?,
-            lines: vec![in heap; line; sizes.lines]?,
+            lines: vec![in heap; Line::default(); sizes.lines]?,
         })
     }
 
-    /// How many rows each table has.
-    pub(crate) fn sizes(&self) -> TableSizes {
-        TableSizes {
-            replicas: self.replicas.len(),
-            readers: self.readers.len(),
-            messages: self.messages.len(),
-            lines: self.lines.len(),
+    /// The tables of all rows.
+    pub(crate) fn tables(&mut self) -> Tables<'_> {
+        Tables {
+            replicas: self.replicas.as_mut_slice(),
+            readers: self.readers.as_mut_slice(),
+            messages: self.messages.as_mut_slice(),
+            lines: self.lines.as_mut_slice(),
         }
     }
 }
@@ -76,40 +72,40 @@ pub(crate) fn count_of(rows: usize) -> u32 {
     u32::try_from(rows).unwrap_or(u32::MAX)
 }
 
-/// The first rows of a table, so many of them as there are.
-pub(crate) fn first_rows<T>(rows: &mut [T], count: usize) -> &mut [T] {
-    let passed = count.min(rows.len());
-    &mut rows[0..passed]
+/// Writes a random row over one of the table's rows, where there is any.
+fn scribble_over<T: Copy, F: FnOnce(&mut Generator) -> T>(
+    generator: &mut Generator,
+    rows: &mut [T],
+    random: F,
+)
+    requires { F.IsAlwaysCallable random }
+{
+    if let Some(place) = generator.place(rows.len()) {
+        rows[place] = random(generator);
+    }
 }
 
 /// Writes a random row over a row of one of the tables, of which so many messages and lines are in use.
 pub(crate) fn scribble(
     generator: &mut Generator,
-    tables: &mut Tables,
+    rows: &mut Rows,
     replicas: u32,
     in_flight: usize,
     lines_used: usize,
 ) {
+    let tables = rows.tables();
+    let used = TableSizes {
+        messages: in_flight,
+        lines: lines_used,
+        ..tables.sizes()
+    };
+    let tables = tables.first(used);
     match generator.below(4) {
-        0 => {
-            if let Some(place) = generator.place(tables.replicas.len()) {
-                tables.replicas[place] = random_row(generator);
-            }
-        }
-        1 => {
-            if let Some(place) = generator.place(tables.readers.len()) {
-                tables.readers[place] = random_reader_row(generator, replicas);
-            }
-        }
-        2 => {
-            if let Some(place) = generator.place(in_flight.min(tables.messages.len())) {
-                tables.messages[place] = random_message_row(generator);
-            }
-        }
-        _ => {
-            if let Some(place) = generator.place(lines_used.min(tables.lines.len())) {
-                tables.lines[place] = random_line(generator);
-            }
-        }
+        0 => scribble_over(generator, tables.replicas, random_row),
+        1 => scribble_over(generator, tables.readers, |generator| {
+            random_reader_row(generator, replicas)
+        }),
+        2 => scribble_over(generator, tables.messages, random_message_row),
+        _ => scribble_over(generator, tables.lines, random_line),
     }
 }

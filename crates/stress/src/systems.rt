@@ -4,6 +4,7 @@ use crate::readers::mostly_below;
 use crate::trial::Trial;
 use fail_prone::fail_prone::FailProne;
 use nested::nested::Nested;
+use quorums::refusal::Refusal;
 use quorums::threshold::Threshold;
 use replica_sets::replica_set::ReplicaSet;
 
@@ -18,9 +19,14 @@ pub(crate) enum System {
     Groups(Nested<Threshold, Threshold>),
 }
 
+/// The number of a refusal.
+fn number_of(refusal: Refusal) -> u32 {
+    u32::from(refusal.code())
+}
+
 /// A threshold that is checked and then made.
 fn checked_threshold(trial: &mut Trial, replicas: u32, faults: u32) -> Threshold {
-    trial.check_system(Threshold::check(replicas, faults));
+    trial.note_check(Threshold::check(replicas, faults).map_err(number_of));
     Threshold::new(replicas, faults)
 }
 
@@ -39,10 +45,10 @@ fn random_set(generator: &mut Generator, replicas: u32) -> ReplicaSet {
 
 /// A system of so many replicas and listed sets, which are written into `sets`.
 fn checked_listed(trial: &mut Trial, replicas: u32, sets: &mut [ReplicaSet]) -> FailProne {
-    for place in 0..sets.len() {
-        sets[place] = random_set(&mut trial.generator, replicas);
+    for set in sets.iter_mut() {
+        *set = random_set(&mut trial.generator, replicas);
     }
-    trial.check_system(FailProne::check(replicas, sets));
+    trial.note_check(FailProne::check(replicas, sets).map_err(number_of));
     FailProne::new(replicas, sets)
 }
 
@@ -55,7 +61,7 @@ fn random_listed(trial: &mut Trial) -> FailProne {
         trial.generator.below(5) as usize
     };
     let mut sets = [ReplicaSet::empty(); MOST_SETS];
-    checked_listed(trial, replicas, &mut sets[0..count])
+    checked_listed(trial, replicas, &mut sets[..count])
 }
 
 /// A system of groups.
@@ -66,7 +72,7 @@ fn random_groups(trial: &mut Trial) -> Nested<Threshold, Threshold> {
     let faults = trial.generator.below(3);
     let outer = checked_threshold(trial, groups, group_faults);
     let inner = checked_threshold(trial, replicas, faults);
-    trial.check_system(Nested::check(&outer, &inner));
+    trial.note_check(Nested::check(&outer, &inner).map_err(number_of));
     Nested::new(outer, inner)
 }
 

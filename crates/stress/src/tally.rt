@@ -1,7 +1,8 @@
 // How often each answer and each refusal came.
+use std::fmt;
 
 /// What is counted of the calls that were accepted.
-#[derive(Clone, Copy)]
+#[derive(Clone, Copy, Debug, PartialEq, Eq)]
 pub(crate) enum Outcome {
     Written,
     Reading,
@@ -20,7 +21,7 @@ pub(crate) enum Outcome {
 /// How many answers there are.
 const ANSWERS: usize = 12;
 
-/// The answers, as they are printed.
+/// The answers, each at its own number, as they are printed.
 const IN_ORDER: [Outcome; ANSWERS] = [
     Outcome::Written,
     Outcome::Reading,
@@ -45,10 +46,9 @@ const LAST_OF_CLUSTER: usize = 19;
 /// The first number of a refusal of an alignment run.
 const FIRST_OF_ALIGNMENT: usize = 29;
 
-impl Outcome {
-    /// The word that is printed for the answer.
-    fn word(self) -> &'static str {
-        match self {
+impl fmt::Display for Outcome {
+    fn fmt<W: fmt::Write>(&self, f: &mut fmt::Formatter<W>) -> fmt::Result {
+        f.write_str(match self {
             Outcome::Written => "written",
             Outcome::Reading => "reading",
             Outcome::Answered => "answered",
@@ -61,14 +61,21 @@ impl Outcome {
             Outcome::Collected => "collected",
             Outcome::Noted => "noted",
             Outcome::Closed => "closed",
-        }
+        })
     }
+}
+
+/// How often an answer came.
+#[derive(Clone, Copy, Debug, PartialEq, Eq)]
+struct Count {
+    answer: Outcome,
+    times: u64,
 }
 
 /// How often each answer and each refusal came.
 #[derive(Drop)]
 pub(crate) struct Tally {
-    answers: [u64; ANSWERS],
+    answers: [Count; ANSWERS],
     refusals: [u64; REFUSALS],
 }
 
@@ -76,35 +83,29 @@ impl Tally {
     /// Nothing is counted yet.
     pub(crate) fn new() -> Tally {
         Tally {
-            answers: [0; ANSWERS],
+            answers: IN_ORDER.map(|answer| Count { answer, times: 0 }),
             refusals: [0; REFUSALS],
         }
     }
 
     /// Counts an answer.
     pub(crate) fn count(&mut self, answer: Outcome) {
-        let place = answer as usize;
-        if place < ANSWERS {
-            self.answers[place] = self.answers[place].wrapping_add(1);
+        if let Some(count) = self.answers.get_mut(answer as usize) {
+            count.times = count.times.wrapping_add(1);
         }
     }
 
     /// Counts a refusal by its number.
     pub(crate) fn count_refusal(&mut self, number: u32) {
-        let place = number as usize;
-        if place < REFUSALS {
-            self.refusals[place] = self.refusals[place].wrapping_add(1);
+        if let Some(times) = self.refusals.get_mut(number as usize) {
+            *times = times.wrapping_add(1);
         }
     }
 
     /// Prints a line for each answer.
     fn print_answers(&self, rt: &impl Print) -> anyhow::Result<()> {
-        for (place, answer) in IN_ORDER.into_iter().enumerate() {
-            if place < ANSWERS {
-                let word = answer.word();
-                let count = self.answers[place];
-                println!(rt; "answer {word} {count}")?;
-            }
+        for Count { answer, times } in self.answers {
+            println!(rt; "answer {answer} {times}")?;
         }
         Ok(())
     }
@@ -112,10 +113,9 @@ impl Tally {
     /// Prints a line for each answer, and one for each refusal's number.
     pub(crate) fn print(&self, rt: &impl Print) -> anyhow::Result<()> {
         self.print_answers(rt)?;
-        for number in 1..REFUSALS {
-            if number <= LAST_OF_CLUSTER || number >= FIRST_OF_ALIGNMENT {
-                let count = self.refusals[number];
-                println!(rt; "refusal {number} {count}")?;
+        for (number, times) in self.refusals.iter().enumerate() {
+            if (1..=LAST_OF_CLUSTER).contains(&number) || number >= FIRST_OF_ALIGNMENT {
+                println!(rt; "refusal {number} {times}")?;
             }
         }
         Ok(())

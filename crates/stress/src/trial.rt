@@ -2,13 +2,13 @@
 use crate::digest::Digest;
 use crate::generator::Generator;
 use crate::tally::{Outcome, Tally};
+use alignment::alignment_refusal::AlignmentRefusal;
 use alignment::alignment_run::AlignmentRun;
 use atomicity::answer::Answer;
 use cluster::completed_read::CompletedRead;
 use cluster::delivery::Delivery;
 use cluster::refusal::Refusal;
 use protocol::client::Reply;
-use quorums::refusal::Refusal as SystemRefusal;
 use settings::setting::Setting;
 
 /// The generator, the digest and the counts.
@@ -35,19 +35,11 @@ impl Trial {
         self.tally.count_refusal(number);
     }
 
-    /// What the check of a quorum system told.
-    pub(crate) fn check_system(&mut self, refusal: Option<SystemRefusal>) {
-        match refusal {
-            Some(refusal) => self.refuse(u32::from(refusal.code())),
-            None => self.digest.mix(0),
-        }
-    }
-
-    /// What the check of a cluster told.
-    pub(crate) fn check_cluster(&mut self, refusal: Option<Refusal>) {
-        match refusal {
-            Some(refusal) => self.refuse(refusal.number()),
-            None => self.digest.mix(0),
+    /// What a check told: nothing, or a refusal's number.
+    pub(crate) fn note_check(&mut self, answer: Result<(), u32>) {
+        match answer {
+            Ok(()) => self.digest.mix(0),
+            Err(number) => self.refuse(number),
         }
     }
 
@@ -89,7 +81,7 @@ impl Trial {
         }
     }
 
-    /// What the delivery of a request came to.
+    /// What the delivery of a request came to, by a number that the format of the digest has.
     fn note_delivery(&mut self, delivery: Delivery) {
         match delivery {
             Delivery::Answered => self.accept_with(Outcome::Answered, 1),
@@ -97,7 +89,7 @@ impl Trial {
         }
     }
 
-    /// What a reply came to.
+    /// What a reply came to, by a number that the format of the digest has.
     fn note_reply(&mut self, reply: Reply) {
         match reply {
             Reply::Heard => self.accept_with(Outcome::Heard, 1),
@@ -119,13 +111,11 @@ impl Trial {
 
     /// Notes a random band.
     fn note_band<S: Setting>(&mut self, run: &mut AlignmentRun<S>) {
-        match run.note(self.generator.below(66)) {
-            Ok(()) => {
-                self.digest.mix(0);
-                self.tally.count(Outcome::Noted);
-            }
-            Err(refusal) => self.refuse(refusal.number()),
+        let answer = run.note(self.generator.below(66));
+        if answer.is_ok() {
+            self.tally.count(Outcome::Noted);
         }
+        self.note_check(answer.map_err(AlignmentRefusal::number));
     }
 
     /// An alignment run from begin to end.
@@ -137,7 +127,7 @@ impl Trial {
             self.note_band(&mut run);
         }
         let noted = run.is_noted(self.generator.below(66));
-        self.digest.mix(if noted { 1 } else { 0 });
+        self.digest.mix(u32::from(noted));
         let closed = run.close();
         self.tally.count(Outcome::Closed);
         self.digest.mix(closed.timestamp);

@@ -1,21 +1,17 @@
 // From a measured lens to a closed alignment run.
+use crate::settings_part::MEASURED;
 use alignment::alignment_run::AlignmentRun;
-use anyhow::anyhow;
+use alignment::closed::Closed;
+use anyhow::{Context, bail};
 use atomicity::answer::Answer;
 use atomicity::call::Call;
 use atomicity::simulation::simulate;
 use cluster::completed_read::CompletedRead;
-use cluster::journal::Line;
-use cluster::reader::Reader;
-use encodings::encoding::blank;
-use protocol::client::fresh_client;
-use protocol::message::Message;
-use protocol::version::Version;
+use cluster::making::Parts;
+use cluster::rows::Rows;
 use quorums::threshold::Threshold;
 use replica_sets::replica_set::ReplicaSet;
 use settings::lens_correction::LensCorrection;
-use settings::lens_correction::fields::LensFields;
-use settings::setting::Setting;
 use signatures::inline_signer::InlineSigner;
 use std::alloc::Global;
 
@@ -45,86 +41,41 @@ fn calls_of(lens: LensCorrection) -> [Call<LensCorrection>; 9] {
 
 /// The completed read with which those calls end.
 fn read_back(heap: Global, lens: LensCorrection) -> anyhow::Result<CompletedRead<LensCorrection>> {
-    let mut replicas = [Version {
-        timestamp: 0,
-        value: blank(),
-        tag: 0,
-    }; 1];
-    let mut readers = [Reader {
-        client: fresh_client::<LensCorrection>(0),
-        completed: None,
-    }; 1];
-    let mut messages = [Message::Query { client: 0, op: 0 }; 6];
-    let mut lines = [Line {
-        kind: 0,
-        client: 0,
-        op: 0,
-        timestamp: 0,
-    }; 4];
-    let calls = calls_of(lens);
-    let Ok(mut simulation) = simulate(
-        heap,
-        Threshold::new(1, 0),
-        InlineSigner::new(0),
-        ReplicaSet::empty(),
-        1,
-        &mut replicas,
-        &mut readers,
-        &mut messages,
-        &mut lines,
-        &calls,
-    ) else {
-        return Err(anyhow!("no memory"));
+    let parts = Parts {
+        system: Threshold::new(1, 0),
+        signatures: InlineSigner::new(0),
+        faulty: ReplicaSet::empty(),
+        reader_count: 1,
     };
-    let Some(last) = simulation.answers.pop() else {
-        return Err(anyhow!("no answer"));
-    };
-    let Ok(answer) = last else {
-        return Err(anyhow!("the last call was refused"));
-    };
-    match answer {
+    let mut rows = Rows::<1, 1, 6, 4>::blank();
+    let mut tables = rows.tables();
+    let mut simulation = simulate(heap, parts, &mut tables, &calls_of(lens))
+        .ok()
+        .context("no memory")?;
+    match simulation.answers.pop().context("no answer")?? {
         Answer::Collected(read) => Ok(read),
-        _ => Err(anyhow!("no read was collected")),
+        _ => bail!("no read was collected"),
     }
 }
 
 fn note(rt: &impl Print, run: &mut AlignmentRun<LensCorrection>, band: u32) -> anyhow::Result<()> {
     match run.note(band) {
         Ok(()) => println!(rt; "band {band}: noted")?,
-        Err(refusal) => {
-            let number = refusal.number();
-            println!(rt; "band {band}: refused {number}")?;
-        }
+        Err(refusal) => println!(rt; "band {band}: refused {}", refusal.number())?,
     }
     Ok(())
 }
 
 pub(crate) fn walk(rt: &impl Print, heap: Global) -> anyhow::Result<()> {
     println!(rt; "-- an alignment run, from a correction that was read")?;
-    let fields = LensFields {
-        band: 12,
-        k1: -120_000_000,
-        k2: 3_500_000,
-        k3: 0,
-        p1: 40_000,
-        p2: -25_000,
-        centre_x: 1_500,
-        centre_y: -750,
-    };
-    let Some(lens) = LensCorrection::new(fields) else {
-        return Err(anyhow!("the lens correction is out of bounds"));
-    };
+    let lens = LensCorrection::try_from(MEASURED)?;
     let read = read_back(heap, lens)?;
     let mut run = AlignmentRun::start(read);
-    let k1 = run.setting().k1();
-    println!(rt; "the run has k1 {k1} billionths")?;
-    note(rt, &mut run, 0)?;
-    note(rt, &mut run, 12)?;
-    note(rt, &mut run, 63)?;
-    note(rt, &mut run, 12)?;
-    note(rt, &mut run, 64)?;
-    let closed = run.close();
-    let (timestamp, bands) = (closed.timestamp, closed.bands);
+    println!(rt; "the run has k1 {} billionths", run.setting().k1())?;
+    for band in [0, 12, 63, 12, 64] {
+        note(rt, &mut run, band)?;
+    }
+    let Closed { timestamp, bands } = run.close();
     println!(rt; "closed: timestamp {timestamp}, {bands} bands")?;
     Ok(())
 }

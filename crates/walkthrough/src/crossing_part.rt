@@ -1,24 +1,19 @@
 // A crossing: one write and two reads at the same time, replica 3 forges, and replica 2 lags.
-use crate::words::{delivery_word, reply_word};
-use anyhow::anyhow;
+use anyhow::Context;
 use atomicity::answer::Answer;
 use atomicity::call::Call;
 use atomicity::simulation::simulate;
-use cluster::completed_read::CompletedRead;
-use cluster::delivery::Delivery;
-use cluster::journal::Line;
-use cluster::reader::Reader;
+use cluster::making::Parts;
 use cluster::refusal::Refusal;
-use encodings::encoding::blank;
-use protocol::client::{Reply, fresh_client};
+use cluster::rows::Rows;
 use protocol::message::Message;
 use protocol::version::{Version, initial_version};
 use quorums::threshold::Threshold;
 use replica_sets::replica_set::ReplicaSet;
-use settings::setting::Setting;
 use settings::shelf_mark::ShelfMark;
 use signatures::inline_signer::InlineSigner;
 use std::alloc::Global;
+use std::io;
 
 fn to_replica(message: usize, replica: u32) -> Call<ShelfMark> {
     Call::DeliverRequest { message, replica }
@@ -94,58 +89,31 @@ fn second_read() -> [Call<ShelfMark>; 19] {
     ]
 }
 
-fn print_delivery(rt: &impl Print, place: usize, delivery: Delivery) -> anyhow::Result<()> {
-    let word = delivery_word(delivery);
-    println!(rt; "{place} to a replica: {word}")?;
-    Ok(())
-}
-
-fn print_reply(rt: &impl Print, place: usize, reply: Reply) -> anyhow::Result<()> {
-    let word = reply_word(reply);
-    println!(rt; "{place} to a client: {word}")?;
-    Ok(())
-}
-
-fn print_read(rt: &impl Print, place: usize, read: CompletedRead<ShelfMark>) -> anyhow::Result<()> {
-    let (reader, timestamp, mark) = (read.reader(), read.timestamp(), read.setting());
-    println!(rt; "{place} reader {reader} gets {mark} of timestamp {timestamp}")?;
-    Ok(())
-}
-
-fn print_number(rt: &impl Print, place: usize, what: &str, number: u32) -> anyhow::Result<()> {
-    println!(rt; "{place} {what} {number}")?;
-    Ok(())
-}
-
-fn print_accepted(rt: &impl Print, place: usize, answer: Answer<ShelfMark>) -> anyhow::Result<()> {
-    match answer {
-        Answer::Written(timestamp) => print_number(rt, place, "write: timestamp", timestamp),
-        Answer::ReadBegun(op) => print_number(rt, place, "read: operation", op),
-        Answer::Delivered(delivery) => print_delivery(rt, place, delivery),
-        Answer::Replied(reply) => print_reply(rt, place, reply),
-        Answer::Dropped => print_number(rt, place, "dropped", 1),
-        Answer::Collected(read) => print_read(rt, place, read),
-    }
-}
-
 fn print_answer(
     rt: &impl Print,
     place: usize,
     answer: Result<Answer<ShelfMark>, Refusal>,
-) -> anyhow::Result<()> {
+) -> io::Result<()> {
+    print!(rt; "{place} ")?;
     match answer {
-        Ok(accepted) => print_accepted(rt, place, accepted),
-        Err(refusal) => print_number(rt, place, "refused", refusal.number()),
+        Ok(Answer::Written(timestamp)) => println!(rt; "write: timestamp {timestamp}"),
+        Ok(Answer::ReadBegun(op)) => println!(rt; "read: operation {op}"),
+        Ok(Answer::Delivered(delivery)) => println!(rt; "to a replica: {delivery}"),
+        Ok(Answer::Replied(reply)) => println!(rt; "to a client: {reply}"),
+        Ok(Answer::Dropped) => println!(rt; "dropped 1"),
+        Ok(Answer::Collected(read)) => println!(rt;
+            "reader {} gets {} of timestamp {}",
+            read.reader(),
+            read.setting(),
+            read.timestamp()
+        ),
+        Err(refusal) => println!(rt; "refused {}", refusal.number()),
     }
 }
 
 fn calls_of(heap: Global) -> anyhow::Result<Vec<Call<ShelfMark>>> {
-    let Some(written) = ShelfMark::from_text(b"P.Oxy.4443") else {
-        return Err(anyhow!("the shelf mark is no mark"));
-    };
-    let Some(unsigned) = ShelfMark::from_text(b"P.Oxy.9999") else {
-        return Err(anyhow!("the shelf mark is no mark"));
-    };
+    let written = ShelfMark::try_from(b"P.Oxy.4443".as_slice())?;
+    let unsigned = ShelfMark::try_from(b"P.Oxy.9999".as_slice())?;
     let mut calls = Vec::new(heap);
     calls.extend_from_slice(&first_read(written, unsigned))?;
     calls.extend_from_slice(&second_read())?;
@@ -155,37 +123,17 @@ fn calls_of(heap: Global) -> anyhow::Result<Vec<Call<ShelfMark>>> {
 pub(crate) fn walk(rt: &impl Print, heap: Global) -> anyhow::Result<()> {
     println!(rt; "-- a crossing; replica 2 lags, and replica 3 forges")?;
     let calls = calls_of(heap)?;
-    let mut replicas = [Version {
-        timestamp: 0,
-        value: blank(),
-        tag: 0,
-    }; 4];
-    let mut readers = [Reader {
-        client: fresh_client::<ShelfMark>(0),
-        completed: None,
-    }; 2];
-    let mut messages = [Message::Query { client: 0, op: 0 }; 24];
-    let mut lines = [Line {
-        kind: 0,
-        client: 0,
-        op: 0,
-        timestamp: 0,
-    }; 8];
-    let faulty = ReplicaSet::of_bits(0b1000);
-    let Ok(simulation) = simulate(
-        heap,
-        Threshold::new(4, 1),
-        InlineSigner::new(0),
-        faulty,
-        2,
-        &mut replicas,
-        &mut readers,
-        &mut messages,
-        &mut lines,
-        &calls,
-    ) else {
-        return Err(anyhow!("no memory"));
+    let parts = Parts {
+        system: Threshold::new(4, 1),
+        signatures: InlineSigner::new(0),
+        faulty: ReplicaSet::of_bits(0b1000),
+        reader_count: 2,
     };
+    let mut rows = Rows::<4, 2, 24, 8>::blank();
+    let mut tables = rows.tables();
+    let simulation = simulate(heap, parts, &mut tables, &calls)
+        .ok()
+        .context("no memory")?;
     for (i, answer) in simulation.answers.into_iter().enumerate() {
         print_answer(rt, i, answer)?;
     }

@@ -6,7 +6,6 @@ mod cluster_part;
 mod crossing_part;
 mod quorum_part;
 mod settings_part;
-mod words;
 
 fn walk(rt: &HostRuntime) -> anyhow::Result<()> {
     settings_part::walk(rt)?;
@@ -17,6 +16,5 @@ fn walk(rt: &HostRuntime) -> anyhow::Result<()> {
 }
 
 fn main(rt: HostRuntime) -> anyhow::Result<()> {
-    let walked = walk(&rt);
-    walked
+    walk(&rt)
 }

@@ -1,4 +1,6 @@
 // The fields of a lens correction, each with its bounds.
+//
+// Each contract tells its bound: a type for each bound would have every caller take the number out again.
 ghost use Rattle.std.specs.Prelude.{◌≡◌, ◌≤◌, unsigned_abs};
 
 use super::LensCorrection;

@@ -1,6 +1,6 @@
 // The bounds of a lens correction's fields.
-ghost use Rattle.std.specs.Prelude.{◌≡◌};
-ghost use Rattle.settings.specs.Lens.{is_coefficient, is_offset, radial_fits, tangential_fits, centre_fits, in_bounds};
+ghost use Rattle.std.specs.Prelude.{◌≡◌, nat_le, unsigned_abs};
+ghost use Rattle.settings.specs.Lens.{radial_fits, tangential_fits, centre_fits, in_bounds};
 
 use super::fields::LensFields;
 
@@ -13,39 +13,34 @@ const COEFFICIENT_LIMIT: u32 = 1_000_000_000;
 /// The greatest size of an offset, in thousandths of a pixel: 100,000 pixels.
 const OFFSET_LIMIT: u32 = 100_000_000;
 
-/// Whether a coefficient lies within its bounds.
-fn coefficient_fits(x: i32) -> bool
-    ensures { result ≡ is_coefficient x }
+/// Whether a number's size is at most the limit.
+fn is_within(x: i32, limit: u32) -> bool
+    ensures { result ≡ nat_le (unsigned_abs x) limit }
 {
-    x.unsigned_abs() <= COEFFICIENT_LIMIT
-}
-
-/// Whether an offset lies within its bounds.
-fn offset_fits(x: i32) -> bool
-    ensures { result ≡ is_offset x }
-{
-    x.unsigned_abs() <= OFFSET_LIMIT
+    x.unsigned_abs() <= limit
 }
 
 /// Whether the radial coefficients lie within their bounds.
 fn radial_fits(fields: LensFields) -> bool
     ensures { result ≡ radial_fits fields }
 {
-    coefficient_fits(fields.k1) && coefficient_fits(fields.k2) && coefficient_fits(fields.k3)
+    is_within(fields.k1, COEFFICIENT_LIMIT)
+        && is_within(fields.k2, COEFFICIENT_LIMIT)
+        && is_within(fields.k3, COEFFICIENT_LIMIT)
 }
 
 /// Whether the tangential coefficients lie within their bounds.
 fn tangential_fits(fields: LensFields) -> bool
     ensures { result ≡ tangential_fits fields }
 {
-    coefficient_fits(fields.p1) && coefficient_fits(fields.p2)
+    is_within(fields.p1, COEFFICIENT_LIMIT) && is_within(fields.p2, COEFFICIENT_LIMIT)
 }
 
 /// Whether the centre's offsets lie within their bounds.
 fn centre_fits(fields: LensFields) -> bool
     ensures { result ≡ centre_fits fields }
 {
-    offset_fits(fields.centre_x) && offset_fits(fields.centre_y)
+    is_within(fields.centre_x, OFFSET_LIMIT) && is_within(fields.centre_y, OFFSET_LIMIT)
 }
 
 /// Whether every field lies within its bounds.

@@ -1,11 +1,12 @@
 // Lens corrections and their bytes.
-ghost use Rattle.std.specs.Prelude.{◌≡◌, true, false, Some, None};
-ghost use Rattle.settings.specs.Lens.{is_lens, in_bounds, fields_bytes};
-ghost use Rattle.settings.specs.LensKind.{no_fields, identity, decoded_fields, lens_of, lens_kind};
+ghost use Rattle.std.specs.Prelude.{◌≡◌};
+ghost use Rattle.settings.specs.Lens.{is_lens};
+ghost use Rattle.settings.specs.LensKind.{no_fields, identity, decoded_fields, lens_of, GivesCorrection, lens_kind};
 ghost use Rattle.settings.specs.LensLaws.{lens_laws};
 
 use super::LensCorrection;
 use super::bounds::fields_fit;
+use super::error::OutOfBounds;
 use super::fields::LensFields;
 use super::words::{bytes_of, fields_of, words_of};
 use crate::setting::Setting;
@@ -36,15 +37,6 @@ fn no_correction() -> LensCorrection
     }
 }
 
-/// The bytes of the fields.
-fn encode_fields(fields: LensFields) -> [u8; 32]
-    ensures value { result ≡ fields_bytes fields }
-    ensures test { is_lens result ≡ in_bounds fields }
-    ensures back { is_lens result ≡ true → (lens_of result).fields ≡ fields }
-{
-    bytes_of(words_of(fields))
-}
-
 /// Whether the bytes stand for fields within their bounds.
 fn is_lens(bytes: &[u8; 32]) -> bool
     ensures { result ≡ is_lens bytes.now }
@@ -72,16 +64,16 @@ fn lens_of(bytes: [u8; 32]) -> LensCorrection
     }
 }
 
-impl LensCorrection {
-    /// The correction with these fields, or none where one lies outside its bounds.
-    pub fn new(fields: LensFields) -> Option<LensCorrection>
-        ensures { elim result [ Some l ↦ (in_bounds fields ≡ true) × (l.fields ≡ fields) | None ↦ in_bounds fields ≡ false ] }
-    {
-        let bytes = encode_fields(fields);
-        if is_lens(&bytes) {
-            Some(lens_of(bytes))
+impl TryFrom<LensFields> for LensCorrection {
+    type Error = OutOfBounds;
+
+    ghost try_from_gives = { GivesCorrection };
+
+    fn try_from(fields: LensFields) -> Result<LensCorrection, OutOfBounds> {
+        if fields_fit(fields) {
+            Ok(LensCorrection { fields })
         } else {
-            None
+            Err(OutOfBounds)
         }
     }
 }
@@ -96,7 +88,7 @@ impl Setting for LensCorrection {
     }
 
     fn encode(self) -> Encoding {
-        encode_fields(self.fields)
+        bytes_of(words_of(self.fields))
     }
 
     fn is_encoding(bytes: Encoding) -> bool {

@@ -1,7 +1,7 @@
 // The fields of a lens correction, before anything is known of them.
 
 /// The fields of a lens correction, each of any value.
-#[derive(Clone, Copy)]
+#[derive(Clone, Copy, Debug, PartialEq, Eq)]
 pub struct LensFields {
     /// The spectral band.
     pub band: u32,

@@ -1,6 +1,6 @@
 // Eight big-endian words in 32 bytes, and the fields that they stand for.
 ghost use Rattle.std.specs.Prelude.{◌≡◌, ◌<◌};
-ghost use Rattle.settings.specs.Words.{encode_words, unsigned_at, signed_at, put_word};
+ghost use Rattle.settings.specs.Words.{encode_words, unsigned_at, signed_at};
 ghost use Rattle.settings.specs.Lens.{fields_at, field_words};
 
 use super::fields::LensFields;
@@ -11,13 +11,8 @@ fn unsigned_at(bytes: Encoding, place: usize) -> u32
     requires { place < 8 }
     ensures { result ≡ unsigned_at bytes place }
 {
-    let start = 4 * place;
-    u32::from_be_bytes([
-        bytes[start],
-        bytes[start + 1],
-        bytes[start + 2],
-        bytes[start + 3],
-    ])
+    let (words, _) = bytes.as_chunks();
+    u32::from_be_bytes(words[place])
 }
 
 /// The word at a place from 0 to 7, as two's complement.
@@ -60,26 +55,11 @@ pub(super) fn words_of(fields: LensFields) -> [u32; 8]
     ]
 }
 
-/// Puts a word at a place from 0 to 7.
-fn put(bytes: &mut Encoding, place: usize, word: u32)
-    requires { place < 8 }
-    ensures { bytes.new ≡ put_word bytes.old place word }
-{
-    let start = 4 * place;
-    let [a, b, c, d] = word.to_be_bytes();
-    bytes[start] = a;
-    bytes[start + 1] = b;
-    bytes[start + 2] = c;
-    bytes[start + 3] = d;
-}
-
 /// The bytes of eight words, one after another.
 pub(super) fn bytes_of(words: [u32; 8]) -> Encoding
     ensures { result ≡ encode_words words }
 {
     let mut bytes = blank();
-    for place in 0..8 {
-        put(&mut bytes, place, words[place]);
-    }
+    bytes.copy_from_slice(words.map(u32::to_be_bytes).as_flattened());
     bytes
 }

@@ -1,13 +1,14 @@
 // Shelf marks and their bytes.
-ghost use Rattle.std.specs.Prelude.{◌≡◌, true, false, Some, None};
+ghost use Rattle.std.specs.Prelude.{◌≡◌, true};
 ghost use Rattle.settings.specs.Marks.{is_text, text_of, is_mark};
-ghost use Rattle.settings.specs.MarkKind.{dash_bytes, dash, decoded_bytes, mark_of, mark_kind};
+ghost use Rattle.settings.specs.MarkKind.{dash_bytes, dash, decoded_bytes, mark_of, GivesMark, mark_kind};
 ghost use Rattle.settings.specs.MarkLaws.{mark_laws};
 
 use super::ShelfMark;
+use super::error::NoShelfMark;
 use super::text::{is_text, padded, text_length};
 use crate::setting::Setting;
-use encodings::encoding::{Encoding, same};
+use encodings::encoding::Encoding;
 
 /// The bytes of the mark `-`.
 fn dash_bytes() -> [u8; 32]
@@ -28,8 +29,8 @@ fn dash_mark() -> ShelfMark
 fn is_mark(bytes: &[u8; 32]) -> bool
     ensures { result ≡ is_mark bytes.now }
 {
-    let text = &bytes[0..text_length(bytes)];
-    is_text(text) && same(*bytes, padded(text))
+    let text = &bytes[..text_length(bytes)];
+    is_text(text) && *bytes == padded(text)
 }
 
 /// The bytes, or those of `-` where they are no encoding.
@@ -47,23 +48,25 @@ fn mark_of(bytes: [u8; 32]) -> ShelfMark
     ShelfMark { bytes }
 }
 
-/// The bytes of a mark with this text.
-fn encode_text(text: &[u8]) -> [u8; 32]
+/// The mark with this text.
+fn mark_with(text: &[u8]) -> ShelfMark
     requires { is_text text.now ≡ true }
-    ensures { text_of (mark_of result).bytes ≡ text.now }
+    ensures { text_of result.bytes ≡ text.now }
 {
-    padded(text)
+    let bytes = padded(text);
+    ShelfMark { bytes }
 }
 
-impl ShelfMark {
-    /// The mark with this text, or none where the text is not 1 to 32 visible characters.
-    pub fn from_text(text: &[u8]) -> Option<ShelfMark>
-        ensures { elim result [ Some m ↦ (is_text text.now ≡ true) × (text_of m.bytes ≡ text.now) | None ↦ is_text text.now ≡ false ] }
-    {
+impl TryFrom<&[u8]> for ShelfMark {
+    type Error = NoShelfMark;
+
+    ghost try_from_gives = { λ text r. GivesMark text.now r };
+
+    fn try_from(text: &[u8]) -> Result<ShelfMark, NoShelfMark> {
         if !is_text(text) {
-            return None;
+            return Err(NoShelfMark);
         }
-        Some(mark_of(encode_text(text)))
+        Ok(mark_with(text))
     }
 }
 

@@ -13,7 +13,7 @@ impl ShelfMark {
         ensures value { result.now ≡ text_of self.now.bytes }
         ensures shape { is_text result.now ≡ true }
     {
-        &self.bytes[0..text_length(&self.bytes)]
+        &self.bytes[..text_length(&self.bytes)]
     }
 }
 

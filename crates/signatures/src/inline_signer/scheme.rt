@@ -1,11 +1,11 @@
 // What an inline signer does.
-ghost use Rattle.std.specs.Prelude.{◌≡◌, ◌+◌, ◌<◌, true, [], ◌∷◌, ◌++◌, take, IfSome, None, slice_set};
+ghost use Rattle.std.specs.Prelude.{◌≡◌, ◌+◌, ◌<◌, true, [], ◌∷◌, ◌++◌, IfSome, None};
 ghost use Rattle.signatures.specs.Books.{Signs};
 ghost use Rattle.signatures.specs.InlineSigners.{inline_book, inline_free, inline_start, inline_tag};
 ghost use Rattle.signatures.specs.Orders.{rises};
 
 use super::{InlineSigner, SLOTS};
-use crate::book::{blank_entry, latest_of, may_sign, place_of, stands_at};
+use crate::book::{latest_of, may_sign};
 use crate::entry::Entry;
 use crate::signatures::Signatures;
 use encodings::encoding::Encoding;
@@ -24,9 +24,8 @@ impl InlineSigner {
         ensures free { inline_free result ≡ 64 }
         ensures start { inline_start result ≡ start }
     {
-        let blank = blank_entry();
         InlineSigner {
-            slots: [blank; SLOTS],
+            slots: [Entry::default(); SLOTS],
             used: 0,
             start,
         }
@@ -36,20 +35,19 @@ impl InlineSigner {
     fn book(&self) -> &[Entry]
         ensures { result.now ≡ inline_book self.now }
     {
-        &self.slots[0..self.used]
+        &self.slots[..self.used]
     }
 
     /// Writes an entry into the first free slot.
     fn append(&mut self, entry: Entry)
-        requires room { self.old.used < 64 }
-        requires newer { rises 0 (take (self.old.used + 1) (slice_set self.old.slots self.old.used entry)) ≡ true }
-        ensures slots { self.new.slots ≡ slice_set self.old.slots self.old.used entry }
-        ensures used { self.new.used ≡ self.old.used + 1 }
-        ensures start { self.new.start ≡ self.old.start }
+        requires room { 0 < inline_free self.old }
+        requires newer { rises 0 (inline_book self.old ++ (entry ∷ [])) ≡ true }
+        ensures book { inline_book self.new ≡ inline_book self.old ++ (entry ∷ []) }
+        ensures free { inline_free self.new + 1 ≡ inline_free self.old }
+        ensures start { inline_start self.new ≡ inline_start self.old }
     {
-        let place = self.used;
-        self.slots[place] = entry;
-        self.used = place + 1;
+        self.slots[self.used] = entry;
+        self.used += 1;
     }
 }
 
@@ -58,6 +56,7 @@ impl Signatures for InlineSigner {
 
     ghost free = { inline_free };
 
+    // The ledger's body differs in the tag alone; one body in the trait would need a public `append`, which any caller could misuse.
     fn sign(&mut self, timestamp: u32, encoding: Encoding) -> Option<u32>
         ensures signs { Signs (inline_book self.old) (inline_free self.old) timestamp encoding result (inline_book self.new) (inline_free self.new) }
         ensures unchanged { result ≡ None → self.new ≡ self.old }
@@ -76,9 +75,12 @@ impl Signatures for InlineSigner {
         Some(tag)
     }
 
-    fn verify(&self, timestamp: u32, encoding: Encoding, tag: u32) -> bool {
+    fn verify(&self, entry: Entry) -> bool {
         let book = self.book();
-        stands_at(book, place_of(book, timestamp), timestamp, encoding, tag)
+        match book.binary_search_by_key(&entry.timestamp, |e| e.timestamp) {
+            Ok(place) => book[place] == entry,
+            Err(_) => false,
+        }
     }
 
     fn entries(&self) -> usize {

@@ -1,14 +1,15 @@
 // What a ledger does.
-ghost use Rattle.std.specs.Prelude.{◌≡◌, ◌+◌, ◌^◌, ◌<◌, true, [], ◌∷◌, ◌++◌, length, IfSome, None, vec_capacity};
+ghost use Rattle.std.specs.Prelude.{◌≡◌, ◌+◌, ◌^◌, ◌<◌, ◌≤◌, true, [], ◌∷◌, ◌++◌, length, IfOk, IfSome, None, vec_capacity};
 ghost use Rattle.signatures.specs.Books.{Signs};
 ghost use Rattle.signatures.specs.Orders.{rises, counts};
 ghost use Rattle.signatures.specs.Ledgers.{ledger_book, ledger_capacity, ledger_free, slots_of};
 
 use super::{Ledger, MOST_SLOTS};
-use crate::book::{latest_of, may_sign, stands_at};
+use crate::book::{latest_of, may_sign};
 use crate::entry::Entry;
 use crate::signatures::Signatures;
 use encodings::encoding::Encoding;
+use std::alloc::{AllocError, Global};
 
 /// How many of the places of the memory are slots.
 fn slots_of(capacity: usize) -> usize
@@ -26,6 +27,16 @@ impl Ledger {
     {
         memory.clear();
         Ledger { memory }
+    }
+
+    /// An empty book in new memory with room for so many entries, or an error where there is no memory.
+    pub fn with_room(heap: Global, entries: usize) -> Result<Ledger, AllocError>
+        ensures book { IfOk result (λ l. ledger_book l ≡ []) }
+        ensures room { IfOk result (λ l. entries ≤ ledger_capacity l) }
+    {
+        let mut memory = Vec::new(heap);
+        memory.reserve_exact(entries)?;
+        Ok(Ledger::new(memory))
     }
 
     /// The memory, with the book's entries in it and with the capacity that it was handed in with.
@@ -81,14 +92,8 @@ impl Signatures for Ledger {
         Some(tag)
     }
 
-    fn verify(&self, timestamp: u32, encoding: Encoding, tag: u32) -> bool {
-        stands_at(
-            self.memory.as_slice(),
-            tag as usize,
-            timestamp,
-            encoding,
-            tag,
-        )
+    fn verify(&self, entry: Entry) -> bool {
+        self.memory.get(entry.tag as usize) == Some(&entry)
     }
 
     fn entries(&self) -> usize {
@@ -96,7 +101,7 @@ impl Signatures for Ledger {
     }
 
     fn latest(&self) -> u32 {
-        latest_of(self.memory.as_slice())
+        latest_of(&self.memory)
     }
 
     fn free(&self) -> usize {

@@ -1,5 +1,5 @@
-use Rattle.std.proofs.Common.{◌≡◌, true, false, not, ◌&&◌, sym, ◌∙◌, ⊎_elim}
-use Rattle.std.proofs.lemmas.Bool.{cases_Bool, both_ways, and_from, and_parts, not_from_false}
+use Rattle.std.proofs.Common.{◌≡◌, true, ◌&&◌, sym, ◌∙◌, arith}
+use Rattle.std.proofs.lemmas.Bool.{both_ways, and_parts, not_from_false, false_from_ne_true}
 use Rattle.replica_sets.specs.Sets.{has}
 use Rattle.quorums.proofs.Intersections.{common_correct}
 use Rattle.quorum_trials.proofs.trials.share_correct.Goals as goal
@@ -16,11 +16,6 @@ returns-then-are_on_trial g c =
     let v = and_parts (q.quorum a) (q.quorum b) u.0 in
     let r = common_correct q (g.met.P.QuorumSystem.lawful p) a b f v.0 v.1 u.1 in
     let i = r.0 in
-    let there : has c.difference.result.members i ≡ true =
-    c.difference.ensures i
-    ∙ and_from (has c.intersection.result.members i) (not (has f i)) (c.intersection.ensures.each i ∙ and_from (has a i) (has b i) r.2 r.3) (not_from_false (has f i) r.4) in
-    let some : not c.is_empty.result ≡ true =
-    ⊎_elim (λ (e : c.is_empty.result ≡ true). absurd (both_ways (has c.difference.result.members i) (c.is_empty.ensures.each.0 e i) there))
-    (λ (e : c.is_empty.result ≡ false). not_from_false c.is_empty.result e)
-    (cases_Bool c.is_empty.result) in
+    let there : has c.difference.result.members i ≡ true = c.difference.ensures i ∙ grind (arith, c.intersection.ensures.each i, r.2, r.3, r.4) in
+    let some = not_from_false c.is_empty.result (false_from_ne_true c.is_empty.result (λ e. both_ways (has c.difference.result.members i) (c.is_empty.ensures.each.0 e i) there)) in
     record { answer = some ∙ sym trial; shared = λ e. r }

@@ -1,25 +1,19 @@
-use Rattle.std.proofs.Common.{◌≤◌, length, refl, arith, rules}
-use Rattle.std.proofs.lemmas.List.{length-take-le}
-use Rattle.cluster.specs.State.{state}
-use Rattle.cluster.proofs.Outcomes.{sizes_stay}
+use Rattle.std.proofs.Common.{refl, le-leb}
+use Rattle.std.proofs.lemmas.Bool.{lt-leb}
+use Rattle.cluster.proofs.Outcomes.{passed_on, refuses, lets_pass, fixed_stays, listed}
 use Rattle.cluster.proofs.Dropping.{drop_shut, drop_refused, drop_so}
 use Rattle.cluster.proofs.cluster.Cluster.drop_message.Goals as goal
 
-pub returns-in-Some : goal.returns-in-Some
-returns-in-Some g c = record { steps = drop_shut _ _ _ c.in-Some.ensures.refusal; holds = search rules }
+pub returns-in_err-closed-clause-steps : goal.returns-in_err-closed-clause-steps
+returns-in_err-closed-clause-steps g c = passed_on c.from_residual.result _ c.from_residual.ensures.1 (drop_shut _ _ _ c.in_err-closed.ensures.refusal)
 
-pub returns-in-Some-room_refusal : goal.returns-in-Some-room_refusal
-returns-in-Some-room_refusal g c =
-    let messages_fit : c.args.self.now.message_count ≤ length c.args.messages.now = omega (arith, c.in_default.ensures.sized.messages_are, c.args.self.now.messages_fit) in
-    let s = state g.P.QuorumSystem.quorums g.K.Signatures.book g.K.Signatures.free c.args.self.now c.args.replicas.now c.args.readers.now c.args.messages.now c.args.lines.now in
-    record { steps = drop_refused s c.args.message c.args.self.now.message_count (length-take-le c.args.self.now.message_count c.args.messages.now messages_fit) c.in_default.ensures.refusal _ c.in-Some-room_refusal.ensures; holds = search rules }
+pub returns-then-message-self-clause-steps : goal.returns-then-message-self-clause-steps
+returns-then-message-self-clause-steps g c =
+    let long = listed c.args.self.now.messages c.args.tables.now.messages.now c.in_ok-closed.ensures.sized.messages_are in
+    drop_refused _ _ c.args.self.now.messages.used long c.in_ok-closed.ensures.refusal 15 (refuses _ 15 _ (le-leb _ _ c.if-message-self.true))
 
-pub returns : goal.returns
-returns g c =
-    let messages_fit : c.args.self.now.message_count ≤ length c.args.messages.now = omega (arith, c.in_default.ensures.sized.messages_are, c.args.self.now.messages_fit) in
-    let s = state g.P.QuorumSystem.quorums g.K.Signatures.book g.K.Signatures.free c.args.self.now c.args.replicas.now c.args.readers.now c.args.messages.now c.args.lines.now in
-    record {
-      steps = drop_so s c.args.message c.args.self.now.message_count (length-take-le c.args.self.now.message_count c.args.messages.now messages_fit) c.in_default.ensures.refusal _ _ c.in_default-room_refusal.ensures
-          (sizes_stay g.P.QuorumSystem.quorums c.args.self.now (length c.args.replicas.now) refl c.remove_row.auto.rows refl) c.remove_row.ensures;
-      holds = search rules;
-    }
+pub returns-clause-steps : goal.returns-clause-steps
+returns-clause-steps g c =
+    let long = listed c.args.self.now.messages c.args.tables.now.messages.now c.in_ok-closed.ensures.sized.messages_are in
+    drop_so _ _ c.args.self.now.messages.used long c.in_ok-closed.ensures.refusal _ _ (lets_pass _ 15 _ (lt-leb _ _ c.if-message-self.false))
+    (fixed_stays g.P.QuorumSystem.quorums c.args.self.now _ refl refl c.remove.auto.rows refl c.remove.ensures.places refl) c.remove.ensures.rows

@@ -1,55 +1,40 @@
-use Rattle.std.proofs.Common.{◌≤◌, length, refl, arith, rules}
-use Rattle.std.proofs.lemmas.List.{length-take-le}
-use Rattle.cluster.specs.State.{state}
-use Rattle.cluster.proofs.Outcomes.{with_signatures, sizes_stay}
+use Rattle.std.proofs.Common.{refl, sym}
+use Rattle.cluster.proofs.Outcomes.{refuses, lets_pass, with_signatures, fixed_stays, listed}
 use Rattle.cluster.proofs.Hearing.{ignored, turn_refused, finish_refused, heard_so, turned_so, finished_so}
 use Rattle.cluster.proofs.cluster.Cluster.hear.Goals as goal
 
-pub returns-in-Ignored : goal.returns-in-Ignored
-returns-in-Ignored g c = record { steps = ignored _ _ _ _ _ _ c.client_at-before.ensures c.in-Ignored.ensures; holds = search rules }
+pub returns-in-Ignored-clause-steps : goal.returns-in-Ignored-clause-steps
+returns-in-Ignored-clause-steps g c = ignored _ _ _ _ _ _ c.client_at-before.ensures c.in-Ignored.ensures
 
-pub returns-in-Heard : goal.returns-in-Heard
-returns-in-Heard g c = record {
-  steps = heard_so _ _ _ _ _ _ c.client_at-before.ensures _ _ _ (sizes_stay g.P.QuorumSystem.quorums c.args.self.now (length c.args.replicas.now) c.put_client.auto.readers refl refl) c.put_client.ensures.writer
-      c.in-Heard.ensures c.put_client.ensures.readers;
-  holds = search rules;
-}
+pub returns-in-Heard-clause-steps : goal.returns-in-Heard-clause-steps
+returns-in-Heard-clause-steps g c =
+    heard_so _ _ _ _ _ _ c.client_at-before.ensures _ _ _ (fixed_stays g.P.QuorumSystem.quorums c.args.self.now _ refl c.put_client.auto.readers refl refl refl refl)
+    c.put_client.ensures.writer c.in-Heard.ensures c.put_client.ensures.readers
 
-pub returns-in-Some : goal.returns-in-Some
-returns-in-Some g c =
-    let messages_fit : c.args.self.now.message_count ≤ length c.args.messages.now = omega (arith, c.requires.messages, c.args.self.now.messages_fit) in
-    let s = state g.P.QuorumSystem.quorums g.K.Signatures.book g.K.Signatures.free c.args.self.now c.args.replicas.now c.args.readers.now c.args.messages.now c.args.lines.now in
-    record {
-      steps = turn_refused g.S.Setting.kind s c.args.id c.args.message _ _ c.client_at-before.ensures _ _ c.in-Turned.ensures (length-take-le c.args.self.now.message_count c.args.messages.now messages_fit) c.in-Some.ensures;
-      holds = record { cluster = with_signatures c.args.self.now c.args.self.now.signatures _ _ _ refl; replicas = refl; readers = refl; messages = refl; lines = refl };
-    }
+pub returns-then-is_full-clause-steps : goal.returns-then-is_full-clause-steps
+returns-then-is_full-clause-steps g c =
+    let long = listed c.args.self.now.messages c.args.tables.now.messages.now c.requires.messages in
+    turn_refused _ _ _ _ _ _ c.client_at-before.ensures _ _ c.in-Turned.ensures long (refuses _ 12 _ (sym c.if-is_full.ensures))
 
-pub returns-in_default : goal.returns-in_default
-returns-in_default g c =
-    let messages_fit : c.args.self.now.message_count ≤ length c.args.messages.now = omega (arith, c.requires.messages, c.args.self.now.messages_fit) in
-    let s = state g.P.QuorumSystem.quorums g.K.Signatures.book g.K.Signatures.free c.args.self.now c.args.replicas.now c.args.readers.now c.args.messages.now c.args.lines.now in
-    record {
-      steps = turned_so g.S.Setting.kind s c.args.id c.args.message _ _ c.client_at-before.ensures _ _ _ (sizes_stay g.P.QuorumSystem.quorums c.args.self.now (length c.args.replicas.now) c.put_client-in-Turned.auto.readers c.append_row.auto.rows refl)
-          c.put_client-in-Turned.ensures.writer _ _ _ c.in-Turned.ensures (length-take-le c.args.self.now.message_count c.args.messages.now messages_fit) c.in_default.ensures c.put_client-in-Turned.ensures.readers c.write_back.ensures c.append_row.ensures;
-      holds = search rules;
-    }
+pub returns-then-is_full-clause-holds : goal.returns-then-is_full-clause-holds
+returns-then-is_full-clause-holds g c = record { cluster = with_signatures c.args.self.now _ _ refl; tables = refl }
 
-pub returns-in-Some-room_refusal : goal.returns-in-Some-room_refusal
-returns-in-Some-room_refusal g c =
-    let lines_fit : c.args.self.now.line_count ≤ length c.args.lines.now = omega (arith, c.requires.lines, c.args.self.now.lines_fit) in
-    let s = state g.P.QuorumSystem.quorums g.K.Signatures.book g.K.Signatures.free c.args.self.now c.args.replicas.now c.args.readers.now c.args.messages.now c.args.lines.now in
-    record {
-      steps = finish_refused g.S.Setting.kind s c.args.id c.args.message _ _ c.client_at-before.ensures _ _ c.in-Finished.ensures (length-take-le c.args.self.now.line_count c.args.lines.now lines_fit) c.in-Some-room_refusal.ensures;
-      holds = record { cluster = with_signatures c.args.self.now c.args.self.now.signatures _ _ _ refl; replicas = refl; readers = refl; messages = refl; lines = refl };
-    }
+pub returns-else-is_full-clause-steps : goal.returns-else-is_full-clause-steps
+returns-else-is_full-clause-steps g c =
+    let long = listed c.args.self.now.messages c.args.tables.now.messages.now c.requires.messages in
+    turned_so _ _ _ _ _ _ c.client_at-before.ensures _ _ _ (fixed_stays g.P.QuorumSystem.quorums c.args.self.now _ refl c.put_client-in-Turned.auto.readers c.append.auto.rows refl c.append.ensures.places refl)
+    c.put_client-in-Turned.ensures.writer _ _ _ c.in-Turned.ensures long (lets_pass _ 12 _ (sym c.if-is_full.ensures)) c.put_client-in-Turned.ensures.readers c.write_back.ensures c.append.ensures.rows
 
-pub returns-in_default-room_refusal : goal.returns-in_default-room_refusal
-returns-in_default-room_refusal g c =
-    let lines_fit : c.args.self.now.line_count ≤ length c.args.lines.now = omega (arith, c.requires.lines, c.args.self.now.lines_fit) in
-    let s = state g.P.QuorumSystem.quorums g.K.Signatures.book g.K.Signatures.free c.args.self.now c.args.replicas.now c.args.readers.now c.args.messages.now c.args.lines.now in
-    record {
-      steps = finished_so g.S.Setting.kind s c.args.id c.args.message _ _ c.client_at-before.ensures _ _ _ (sizes_stay g.P.QuorumSystem.quorums c.args.self.now (length c.args.replicas.now) c.finish_client.auto.readers refl c.append_row-in-Finished.auto.rows)
-          c.finish_client.ensures.writer _ _ _ c.in-Finished.ensures (length-take-le c.args.self.now.line_count c.args.lines.now lines_fit) c.in_default-room_refusal.ensures c.finish_client.ensures.readers c.end_line.ensures
-          c.append_row-in-Finished.ensures;
-      holds = search rules;
-    }
+pub returns-then-is_full-2-clause-steps : goal.returns-then-is_full-2-clause-steps
+returns-then-is_full-2-clause-steps g c =
+    let long = listed c.args.self.now.lines c.args.tables.now.lines.now c.requires.lines in
+    finish_refused _ _ _ _ _ _ c.client_at-before.ensures _ _ c.in-Finished.ensures long (refuses _ 13 _ (sym c.if-is_full-2.ensures))
+
+pub returns-then-is_full-2-clause-holds : goal.returns-then-is_full-2-clause-holds
+returns-then-is_full-2-clause-holds g c = record { cluster = with_signatures c.args.self.now _ _ refl; tables = refl }
+
+pub returns-else-is_full-2-clause-steps : goal.returns-else-is_full-2-clause-steps
+returns-else-is_full-2-clause-steps g c =
+    let long = listed c.args.self.now.lines c.args.tables.now.lines.now c.requires.lines in
+    finished_so _ _ _ _ _ _ c.client_at-before.ensures _ _ _ (fixed_stays g.P.QuorumSystem.quorums c.args.self.now _ refl c.finish_client.auto.readers refl c.append-in-Finished.auto.rows refl c.append-in-Finished.ensures.places)
+    c.finish_client.ensures.writer _ _ _ c.in-Finished.ensures long (lets_pass _ 13 _ (sym c.if-is_full-2.ensures)) c.finish_client.ensures.readers c.end_line.ensures c.append-in-Finished.ensures.rows

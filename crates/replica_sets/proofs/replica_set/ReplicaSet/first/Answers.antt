@@ -1,9 +1,9 @@
-use Rattle.std.proofs.Common.{ap, ◌∙◌}
-use Rattle.replica_sets.specs.Sets.{all}
-use Rattle.replica_sets.proofs.Members.{first_bits, first_each}
+use Rattle.std.proofs.Common.{rules}
+use Rattle.replica_sets.proofs.Members.{first_each}
 use Rattle.replica_sets.proofs.replica_set.ReplicaSet.first.Goals as goal
 
-pub returns : goal.returns
-returns c =
-    let mask = c.low.ensures ∙ ap all c.min.ensures in
-    record { bits = first_bits c.args.count c.low.result mask; each = first_each c.args.count c.low.result mask }
+pub returns-then-count-lt-PLACES-clause-each : goal.returns-then-count-lt-PLACES-clause-each
+returns-then-count-lt-PLACES-clause-each c i = first_each c.args.count _ i (search rules)
+
+pub returns-else-count-lt-PLACES-clause-each : goal.returns-else-count-lt-PLACES-clause-each
+returns-else-count-lt-PLACES-clause-each c i = first_each c.args.count _ i (search rules)
