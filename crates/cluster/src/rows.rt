@@ -52,7 +52,9 @@ impl<const N: usize, const S: usize, const M: usize, const L: usize> Rows<N, S, 
         }
     }
 
-    /// The rows as tables.
+    /// The rows as tables, each whole.
+    ///
+    /// That what is written there is held by the rows afterwards is Rust's rule of borrows: no clause can say it of four parts that are lent at once.
     pub fn tables(&mut self) -> Tables<'_>
         ensures replicas { result.replicas.now ≡ self.old.replicas }
         ensures readers { result.readers.now ≡ self.old.readers }

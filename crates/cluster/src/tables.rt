@@ -1,5 +1,5 @@
 // The four tables that come along with each call.
-ghost use Rattle.std.specs.Prelude.{◌≡◌, length, replicate, take};
+ghost use Rattle.std.specs.Prelude.{◌≡◌, length, replicate};
 ghost use Rattle.cluster.specs.State.{sizes_of};
 
 use crate::journal::Line;
@@ -28,37 +28,6 @@ pub struct TableSizes {
     pub readers: usize,
     pub messages: usize,
     pub lines: usize,
-}
-
-/// The first rows, or all where there are no more.
-fn front<T>(rows: &mut [T], count: usize) -> &mut [T]
-    ensures { result.now ≡ take count rows.old }
-{
-    let passed = count.min(rows.len());
-    &mut rows[..passed]
-}
-
-impl<'a> Tables<'a> {
-    /// The tables of the first rows, so many of each as there are.
-    pub fn first(self, sizes: TableSizes) -> Tables<'a>
-        ensures replicas { result.replicas.now ≡ take sizes.replicas self.entry.replicas.now }
-        ensures readers { result.readers.now ≡ take sizes.readers self.entry.readers.now }
-        ensures messages { result.messages.now ≡ take sizes.messages self.entry.messages.now }
-        ensures lines { result.lines.now ≡ take sizes.lines self.entry.lines.now }
-    {
-        let Tables {
-            replicas,
-            readers,
-            messages,
-            lines,
-        } = self;
-        Tables {
-            replicas: front(replicas, sizes.replicas),
-            readers: front(readers, sizes.readers),
-            messages: front(messages, sizes.messages),
-            lines: front(lines, sizes.lines),
-        }
-    }
 }
 
 impl Tables<'_> {

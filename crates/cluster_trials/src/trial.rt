@@ -37,6 +37,12 @@ pub(crate) struct Trial<K> {
     pub rows: TrialRows,
 }
 
+/// The first rows, or all where there are no more.
+fn front<T>(rows: &mut [T], count: usize) -> &mut [T] {
+    let count = count.min(rows.len());
+    &mut rows[..count]
+}
+
 impl<K: Signatures> Trial<K> {
     /// A cluster of four replicas with this signature scheme and this set of faulty replicas.
     pub(crate) fn new(signatures: K, faulty: ReplicaSet) -> Trial<K> {
@@ -57,7 +63,19 @@ impl<K: Signatures> Trial<K> {
         F: FnOnce(&mut TrialCluster<K>, &mut Tables<'_>) -> Result<T, Refusal>,
         requires { F.IsAlwaysCallable call }
     {
-        call(&mut self.cluster, &mut self.rows.tables().first(sizes)).map_err(Refusal::number)
+        let Tables {
+            replicas,
+            readers,
+            messages,
+            lines,
+        } = self.rows.tables();
+        let mut tables = Tables {
+            replicas: front(replicas, sizes.replicas),
+            readers: front(readers, sizes.readers),
+            messages: front(messages, sizes.messages),
+            lines: front(lines, sizes.lines),
+        };
+        call(&mut self.cluster, &mut tables).map_err(Refusal::number)
     }
 
     /// Makes a call that is a value, with tables of these sizes.

@@ -107,8 +107,8 @@ pub(crate) fn play_call<S: Setting, P: QuorumSystem, K: Signatures>(
             cluster.journal_lines(),
         );
     }
-    let passed = random_passed(&mut trial.generator, rows.tables().sizes());
+    let passed = random_passed(&mut trial.generator, rows.sizes());
     let call = random_call(&mut trial.generator, cluster, rows);
     trial.digest.mix(code_of(&call));
-    trial.note(make_call(cluster, &mut rows.tables().first(passed), call));
+    trial.note(make_call(cluster, &mut rows.first(passed), call));
 }

@@ -58,13 +58,37 @@ impl Rows {
 
     /// The tables of all rows.
     pub(crate) fn tables(&mut self) -> Tables<'_> {
+        let sizes = self.sizes();
+        self.first(sizes)
+    }
+
+    /// The tables of the first rows, so many of each as there are.
+    pub(crate) fn first(&mut self, passed: TableSizes) -> Tables<'_> {
         Tables {
-            replicas: self.replicas.as_mut_slice(),
-            readers: self.readers.as_mut_slice(),
-            messages: self.messages.as_mut_slice(),
-            lines: self.lines.as_mut_slice(),
+            replicas: front(&mut self.replicas, passed.replicas),
+            readers: front(&mut self.readers, passed.readers),
+            messages: front(&mut self.messages, passed.messages),
+            lines: front(&mut self.lines, passed.lines),
         }
     }
+
+    /// How many rows each table has.
+    pub(crate) fn sizes(&self) -> TableSizes {
+        TableSizes {
+            replicas: self.replicas.len(),
+            readers: self.readers.len(),
+            messages: self.messages.len(),
+            lines: self.lines.len(),
+        }
+    }
+}
+
+/// The first rows of a table, or all where there are no more.
+///
+/// `cluster_trials` has the same two lines of its own: a function for both would be public, and no clause of it could say that the other rows stay.
+fn front<T>(rows: &mut [T], count: usize) -> &mut [T] {
+    let count = count.min(rows.len());
+    &mut rows[..count]
 }
 
 /// How many rows there are, as a number of 32 bits.
@@ -93,13 +117,12 @@ pub(crate) fn scribble(
     in_flight: usize,
     lines_used: usize,
 ) {
-    let tables = rows.tables();
     let used = TableSizes {
         messages: in_flight,
         lines: lines_used,
-        ..tables.sizes()
+        ..rows.sizes()
     };
-    let tables = tables.first(used);
+    let tables = rows.first(used);
     match generator.below(4) {
         0 => scribble_over(generator, tables.replicas, random_row),
         1 => scribble_over(generator, tables.readers, |generator| {
