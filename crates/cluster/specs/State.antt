@@ -97,9 +97,14 @@ pub record Unchanged {C : Type 0} (c c' : C) (t t' : Tables) : Type 0 where
 abbrev pub Stays : {A S P K : Type 0} → Result A Refusal → Cluster S P K → Cluster S P K → Tables → Tables → Type 0
 Stays r c c' t t' = MatchResult r (λ _. Kept c c' × (c'.signatures ≡ c.signatures)) (λ _. Unchanged c c' t t')
 
--- the four tables are those that were handed in, whatever they hold; a clause of its own in each contract, since it holds of refused calls too
+-- the four tables are those that were handed in, each as long as it was, whatever they hold; a clause of its own in each contract, since it holds of
+-- refused calls too
 pub record SameTables (t t' : Tables) : Type 0 where
   pub replicas : t'.replicas.ghost_name ≡ t.replicas.ghost_name
   pub readers : t'.readers.ghost_name ≡ t.readers.ghost_name
   pub messages : t'.messages.ghost_name ≡ t.messages.ghost_name
   pub lines : t'.lines.ghost_name ≡ t.lines.ghost_name
+  pub replica_rows : length t'.replicas.now ≡ length t.replicas.now
+  pub reader_rows : length t'.readers.now ≡ length t.readers.now
+  pub message_rows : length t'.messages.now ≡ length t.messages.now
+  pub line_rows : length t'.lines.now ≡ length t.lines.now

@@ -17,23 +17,23 @@ use settings::setting::Setting;
 use signatures::signatures::Signatures;
 
 impl<S: Setting, P: QuorumSystem, K: Signatures> Cluster<S, P, K> {
-    /// Hands a reply to a client.
+    /// Hands a reply to a client. It is lent, since a copy costs what the call is to be spared.
     fn hear(
         &mut self,
         tables: &mut Tables<'_>,
         id: u32,
-        message: Message<S>,
+        message: &Message<S>,
     ) -> Result<Reply, Refusal>
         requires known { id ≤ length tables.old.readers.now }
         requires messages { length tables.old.messages.now ≡ self.old.messages.places }
         requires lines { length tables.old.lines.now ≡ self.old.lines.places }
-        ensures steps { let of = state P.quorums K.book K.free in hear S.kind (of self.old tables.old) id message ≡ (numbered result, of self.new tables.new) }
+        ensures steps { let of = state P.quorums K.book K.free in hear S.kind (of self.old tables.old) id message.now ≡ (numbered result, of self.new tables.new) }
         ensures holds { Stays result self.old self.new tables.old tables.new }
         ensures tables { SameTables tables.old tables.new }
     {
         let before = client_at(self.writer, tables, id);
         let mut client = before;
-        match client.react(&self.system, &self.signatures, message) {
+        match client.react(&self.system, &self.signatures, *message) {
             Reply::Ignored => Ok(Reply::Ignored),
             Reply::Heard => {
                 put_client(&mut self.writer, tables.readers, id, client);
@@ -74,7 +74,7 @@ impl<S: Setting, P: QuorumSystem, K: Signatures> Cluster<S, P, K> {
             return Err(Refusal::NoMessage);
         };
         reply_refusal(row, self.system.replicas(), tables.readers.len())?;
-        self.hear(tables, row.client(), decode_message(row))
+        self.hear(tables, row.client(), &decode_message(row))
     }
 
     /// Hands a client a reply as from a faulty replica, past the messages in flight.
@@ -94,6 +94,6 @@ impl<S: Setting, P: QuorumSystem, K: Signatures> Cluster<S, P, K> {
             self.faulty,
             tables.readers.len(),
         )?;
-        self.hear(tables, message.client(), message)
+        self.hear(tables, message.client(), &message)
     }
 }

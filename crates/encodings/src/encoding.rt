@@ -1,9 +1,16 @@
 // The bytes that stand for a setting.
 ghost use Rattle.std.specs.Prelude.{◌≡◌};
-ghost use Rattle.encodings.specs.Encodings.{no_bytes};
+ghost use Rattle.encodings.specs.Encodings.{same_bytes, no_bytes};
 
 /// The bytes of a setting: exactly 32, by value.
 pub type Encoding = [u8; 32];
+
+/// Whether two encodings agree in every byte.
+pub fn same(a: Encoding, b: Encoding) -> bool
+    ensures { result ≡ same_bytes a b }
+{
+    a == b
+}
 
 /// Zeros only: what fills a place that holds no setting yet.
 pub fn blank() -> Encoding

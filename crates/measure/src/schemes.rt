@@ -1,7 +1,6 @@
 // The workloads of the signature schemes.
 use crate::turns::sum_of;
 use encodings::encoding::Encoding;
-use signatures::entry::Entry;
 use signatures::inline_signer::{InlineSigner, SLOTS};
 use signatures::ledger::Ledger;
 use signatures::signatures::Signatures;
@@ -48,12 +47,7 @@ pub(crate) fn verify(
     let ledger = begun_ledger(heap, entries, encoding)?;
     Ok(sum_of(count, |turn| {
         let tag = turn % entries.max(1);
-        let timestamp = tag + 1;
-        u64::from(ledger.verify(Entry {
-            timestamp,
-            encoding,
-            tag,
-        }))
+        u64::from(ledger.verify(tag + 1, encoding, tag))
     }))
 }
 
@@ -63,10 +57,6 @@ pub(crate) fn verify_inline(count: u32, encoding: Encoding) -> u64 {
     sign_all(&mut signer, SLOTS as u32, encoding);
     sum_of(count, |turn| {
         let timestamp = 1 + turn % SLOTS as u32;
-        u64::from(signer.verify(Entry {
-            timestamp,
-            encoding,
-            tag: timestamp,
-        }))
+        u64::from(signer.verify(timestamp, encoding, timestamp))
     })
 }

@@ -2,8 +2,8 @@
 ghost use Rattle.std.specs.Prelude.{◌≡◌};
 ghost use Rattle.protocol.specs.Versions.{Computes, initial_version, genuine, with_value};
 
+use encodings::encoding::same;
 use settings::setting::Setting;
-use signatures::entry::Entry;
 use signatures::signatures::Signatures;
 
 /// A value, the timestamp that it was written under, and its signature's tag.
@@ -44,11 +44,8 @@ pub fn is_genuine<S: Setting, K: Signatures>(signatures: &K, version: Version<S>
     ensures { result ≡ genuine S.kind (K.book signatures.now) version }
 {
     let encoding = version.value.encode();
-    let entry = Entry {
-        timestamp: version.timestamp,
-        encoding,
-        tag: version.tag,
-    };
-    let initial = entry.timestamp == 0 && entry.tag == 0 && encoding == S::initial().encode();
-    initial || signatures.verify(entry)
+    let initial = version.timestamp == 0
+        && version.tag == 0
+        && same(encoding, S::initial().encode());
+    initial || signatures.verify(version.timestamp, encoding, version.tag)
 }

@@ -74,3 +74,7 @@ mark_wide m =
 
 pub mark_laws : KindLaws mark_kind
 mark_laws = record { wide = mark_wide; passes = λ m. m.marked; back = mark_back; forth = mark_forth; other = mark_other }
+
+-- a padded text is decoded to a mark with that text
+pub text_back : (t : List ℕ) → is_text t ≡ true → text_of (mark_of (pad t)).bytes ≡ t
+text_back t h = ap text_of (mark_forth (pad t) (pad_mark t h)) ∙ text_pad t h

@@ -1,12 +1,27 @@
 -- Words and their bytes. Assumes nothing.
-use Rattle.std.specs.Prelude.{◌≡◌, ℕ, zero, suc, ◌*◌, ◌/◌, ◌%◌, ◌<◌, ◌≤◌, true, List, [], ◌∷◌, ◌++◌, length, nat_lt, slice_index, slice_index_or, flat_map, refl}
-use Rattle.std.proofs.Common.{◌∙◌, ap, ap₂, arith, ltb-true, lt-ltb}
+use Rattle.std.specs.Prelude.{◌≡◌, ℕ, zero, suc, ◌+◌, ◌*◌, ◌/◌, ◌%◌, ◌<◌, ◌≤◌, true, List, [], ◌∷◌, ◌++◌, length, nat_lt, slice_index, slice_index_or, flat_map, refl}
+use Rattle.std.proofs.Common.{sym, ◌∙◌, ap, ap₂, arith, ltb-true, lt-ltb}
 use Rattle.std.specs.Int.{w32, from_be_bytes}
 use Rattle.std.specs.List.{AllByRecursion}
 use Rattle.std.specs.Simd.{first_chunks}
 use Rattle.std.proofs.lemmas.Bool.{and_parts, and_from}
 use Rattle.std.proofs.lemmas.Nat.{be_bytes_4, from_be_bytes-to_be_bytes_4}
 use Rattle.settings.specs.Words.{word, words, encode_word, encode_words, all_bytes}
+
+past_four : (a b c d : ℕ) (bs : List ℕ) (n m : ℕ) → n ≡ suc (suc (suc (suc m))) → slice_index bs m ≡ slice_index (a ∷ b ∷ c ∷ d ∷ bs) n
+past_four a b c d bs n m e = sym (ap (λ k. slice_index (a ∷ b ∷ c ∷ d ∷ bs) k) e)
+
+-- the word at a place, by its bytes
+pub word_at : (bs : List ℕ) (i : ℕ) → 4 * i + 4 ≤ length bs → slice_index (words bs) i ≡ word (slice_index bs (4 * i)) (slice_index bs (4 * i + 1)) (slice_index bs (4 * i + 2)) (slice_index bs (4 * i + 3))
+word_at [] i h = absurd (omega arith)
+word_at (a ∷ []) i h = absurd (omega arith)
+word_at (a ∷ b ∷ []) i h = absurd (omega arith)
+word_at (a ∷ b ∷ c ∷ []) i h = absurd (omega arith)
+word_at (a ∷ b ∷ c ∷ d ∷ bs) zero h = refl
+word_at (a ∷ b ∷ c ∷ d ∷ bs) (suc i) h =
+    word_at bs i (omega arith)
+    ∙ (λ k. word (past_four a b c d bs (4 * suc i) (4 * i) (omega arith) k) (past_four a b c d bs (4 * suc i + 1) (4 * i + 1) (omega arith) k)
+    (past_four a b c d bs (4 * suc i + 2) (4 * i + 2) (omega arith) k) (past_four a b c d bs (4 * suc i + 3) (4 * i + 3) (omega arith) k))
 
 -- the word at a place, by its chunk of four bytes
 pub chunk_word : (bs : List ℕ) (n i : ℕ) → n * 4 ≤ length bs → i < n → from_be_bytes w32 (slice_index_or (first_chunks 4 n bs) i []) ≡ slice_index (words bs) i

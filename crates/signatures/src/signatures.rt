@@ -3,7 +3,6 @@ ghost use Rattle.std.specs.Prelude.{◌≡◌, ℕ, List, length, None};
 ghost use Rattle.signatures.specs.Books.{Signs, signed, newest};
 ghost use Rattle.signatures.specs.declared.entry.Entry.{Entry};
 
-use crate::entry::Entry;
 use encodings::encoding::Encoding;
 
 /// A scheme that signs encodings under rising timestamps, and knows again what it signed.
@@ -18,8 +17,8 @@ pub trait Signatures {
         ensures unchanged { result ≡ None → self.new ≡ self.old };
 
     /// Whether exactly this was signed.
-    fn verify(&self, entry: Entry) -> bool
-        ensures { result ≡ signed (book self.now) entry.timestamp entry.encoding entry.tag };
+    fn verify(&self, timestamp: u32, encoding: Encoding, tag: u32) -> bool
+        ensures { result ≡ signed (book self.now) timestamp encoding tag };
 
     /// How many entries the book has.
     fn entries(&self) -> usize

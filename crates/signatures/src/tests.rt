@@ -14,15 +14,6 @@ fn ending(byte: u8) -> Encoding {
     encoding
 }
 
-/// An entry of such an encoding.
-fn entry(timestamp: u32, byte: u8, tag: u32) -> Entry {
-    Entry {
-        timestamp,
-        encoding: ending(byte),
-        tag,
-    }
-}
-
 /// Signs in order, and compares each tag, or refusal, and what is left.
 fn signs<K: Signatures>(rt: &impl Abort, scheme: &mut K, cases: &[(u32, Option<u32>)]) {
     for &(timestamp, tag) in cases {
@@ -37,12 +28,12 @@ fn signs<K: Signatures>(rt: &impl Abort, scheme: &mut K, cases: &[(u32, Option<u
 
 /// Asks a scheme about changed entries, one part at a time.
 fn verifies<K: Signatures>(rt: &impl Abort, scheme: &K, timestamp: u32, tag: u32) {
-    assert!(rt; scheme.verify(entry(timestamp, 7, tag)));
-    assert!(rt; !scheme.verify(entry(timestamp, 8, tag)));
-    assert!(rt; !scheme.verify(entry(timestamp, 7, tag ^ 1)));
-    assert!(rt; !scheme.verify(entry(timestamp, 7, tag ^ 0x8000_0000)));
-    assert!(rt; !scheme.verify(entry(timestamp ^ 1, 7, tag)));
-    assert!(rt; !scheme.verify(Entry::default()));
+    assert!(rt; scheme.verify(timestamp, ending(7), tag));
+    assert!(rt; !scheme.verify(timestamp, ending(8), tag));
+    assert!(rt; !scheme.verify(timestamp, ending(7), tag ^ 1));
+    assert!(rt; !scheme.verify(timestamp, ending(7), tag ^ 0x8000_0000));
+    assert!(rt; !scheme.verify(timestamp ^ 1, ending(7), tag));
+    assert!(rt; !scheme.verify(0, blank(), 0));
 }
 
 /// Signs timestamps 1, 2, .. under tags 0, 1, .. while slots are free, and then no more.
@@ -51,7 +42,7 @@ fn fills<K: Signatures>(rt: &impl Abort, scheme: &mut K, slots: usize) {
     for tag in 0..100 {
         let fits = (tag as usize) < slots;
         assert_eq!(rt; scheme.sign(tag + 1, ending(7)), fits.then_some(tag));
-        assert_eq!(rt; scheme.verify(entry(tag + 1, 7, tag)), fits);
+        assert_eq!(rt; scheme.verify(tag + 1, ending(7), tag), fits);
     }
     assert_eq!(rt; scheme.free(), 0);
     assert_eq!(rt; scheme.entries(), slots);

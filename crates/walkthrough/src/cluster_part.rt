@@ -59,10 +59,12 @@ impl<'a> Store<'a> {
             client: 0,
             op: 1,
         };
-        print!(rt; "an acknowledgement forged for replica {replica}: ")?;
         match self.cluster.forge_reply(&mut self.tables, ack) {
-            Ok(reply) => println!(rt; "{reply}")?,
-            Err(refusal) => println!(rt; "refused {}", refusal.number())?,
+            Ok(reply) => println!(rt; "an acknowledgement forged for replica {replica}: {reply}")?,
+            Err(refusal) => println!(rt;
+                "an acknowledgement forged for replica {replica}: refused {}",
+                refusal.number()
+            )?,
         }
         Ok(())
     }

@@ -94,20 +94,19 @@ fn print_answer(
     place: usize,
     answer: Result<Answer<ShelfMark>, Refusal>,
 ) -> io::Result<()> {
-    print!(rt; "{place} ")?;
     match answer {
-        Ok(Answer::Written(timestamp)) => println!(rt; "write: timestamp {timestamp}"),
-        Ok(Answer::ReadBegun(op)) => println!(rt; "read: operation {op}"),
-        Ok(Answer::Delivered(delivery)) => println!(rt; "to a replica: {delivery}"),
-        Ok(Answer::Replied(reply)) => println!(rt; "to a client: {reply}"),
-        Ok(Answer::Dropped) => println!(rt; "dropped 1"),
+        Ok(Answer::Written(timestamp)) => println!(rt; "{place} write: timestamp {timestamp}"),
+        Ok(Answer::ReadBegun(op)) => println!(rt; "{place} read: operation {op}"),
+        Ok(Answer::Delivered(delivery)) => println!(rt; "{place} to a replica: {delivery}"),
+        Ok(Answer::Replied(reply)) => println!(rt; "{place} to a client: {reply}"),
+        Ok(Answer::Dropped) => println!(rt; "{place} dropped 1"),
         Ok(Answer::Collected(read)) => println!(rt;
-            "reader {} gets {} of timestamp {}",
+            "{place} reader {} gets {} of timestamp {}",
             read.reader(),
             read.setting(),
             read.timestamp()
         ),
-        Err(refusal) => println!(rt; "refused {}", refusal.number()),
+        Err(refusal) => println!(rt; "{place} refused {}", refusal.number()),
     }
 }
 

@@ -8,7 +8,7 @@ use super::ShelfMark;
 use super::error::NoShelfMark;
 use super::text::{is_text, padded, text_length};
 use crate::setting::Setting;
-use encodings::encoding::Encoding;
+use encodings::encoding::{Encoding, same};
 
 /// The bytes of the mark `-`.
 fn dash_bytes() -> [u8; 32]
@@ -30,7 +30,7 @@ fn is_mark(bytes: &[u8; 32]) -> bool
     ensures { result ≡ is_mark bytes.now }
 {
     let text = &bytes[..text_length(bytes)];
-    is_text(text) && *bytes == padded(text)
+    is_text(text) && same(*bytes, padded(text))
 }
 
 /// The bytes, or those of `-` where they are no encoding.

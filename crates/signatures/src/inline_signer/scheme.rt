@@ -5,7 +5,7 @@ ghost use Rattle.signatures.specs.InlineSigners.{inline_book, inline_free, inlin
 ghost use Rattle.signatures.specs.Orders.{rises};
 
 use super::{InlineSigner, SLOTS};
-use crate::book::{latest_of, may_sign};
+use crate::book::{latest_of, may_sign, place_of, stands_at};
 use crate::entry::Entry;
 use crate::signatures::Signatures;
 use encodings::encoding::Encoding;
@@ -75,12 +75,9 @@ impl Signatures for InlineSigner {
         Some(tag)
     }
 
-    fn verify(&self, entry: Entry) -> bool {
+    fn verify(&self, timestamp: u32, encoding: Encoding, tag: u32) -> bool {
         let book = self.book();
-        match book.binary_search_by_key(&entry.timestamp, |e| e.timestamp) {
-            Ok(place) => book[place] == entry,
-            Err(_) => false,
-        }
+        stands_at(book, place_of(book, timestamp), timestamp, encoding, tag)
     }
 
     fn entries(&self) -> usize {

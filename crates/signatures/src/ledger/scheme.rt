@@ -5,7 +5,7 @@ ghost use Rattle.signatures.specs.Orders.{rises, counts};
 ghost use Rattle.signatures.specs.Ledgers.{ledger_book, ledger_capacity, ledger_free, slots_of};
 
 use super::{Ledger, MOST_SLOTS};
-use crate::book::{latest_of, may_sign};
+use crate::book::{latest_of, may_sign, stands_at};
 use crate::entry::Entry;
 use crate::signatures::Signatures;
 use encodings::encoding::Encoding;
@@ -92,8 +92,14 @@ impl Signatures for Ledger {
         Some(tag)
     }
 
-    fn verify(&self, entry: Entry) -> bool {
-        self.memory.get(entry.tag as usize) == Some(&entry)
+    fn verify(&self, timestamp: u32, encoding: Encoding, tag: u32) -> bool {
+        stands_at(
+            self.memory.as_slice(),
+            tag as usize,
+            timestamp,
+            encoding,
+            tag,
+        )
     }
 
     fn entries(&self) -> usize {

@@ -1,21 +1,11 @@
-use Rattle.std.proofs.Common.{Ok, Err, sym, ◌∙◌, rules}
-use Rattle.std.proofs.lemmas.List.Sorted.{answers_always}
-use Rattle.signatures.specs.declared.entry.Entry.{Entry}
-use Rattle.signatures.specs.InlineSigners.{inline_book}
+use Rattle.std.proofs.Common.{ap, ◌∙◌}
+use Rattle.signatures.specs.Orders.{rises}
 use Rattle.signatures.proofs.Rising.{by_timestamp}
 use Rattle.signatures.proofs.inline_signer.scheme.InlineSignerSignatures.verify.Goals as goal
 
-pub returns-in-Ok : goal.returns-in-Ok
-returns-in-Ok c =
-    let s = c.args.self.now in
-    let facts = c.in-Ok.ensures in
-    let at = facts.position (λ (x : Entry). x.timestamp) (search (rules, answers_always)) in
-    let found = by_timestamp c.args.entry (inline_book s) (Ok c.in-Ok.place) s.rising (rw (← c.book-book.ensures) facts.bound) (rw (← c.book-book.ensures) at) in
-    c.eq.ensures ∙ rw c.book-book.ensures (sym (found _))
-
-pub returns-in-Err : goal.returns-in-Err
-returns-in-Err c =
-    let s = c.args.self.now in
-    let facts = c.in-Err.ensures in
-    let at = facts.position (λ (x : Entry). x.timestamp) (search (rules, answers_always)) in
-    sym (by_timestamp c.args.entry (inline_book s) (Err c.in-Err.field-0) s.rising (rw (← c.book-book.ensures) facts.bound) (rw (← c.book-book.ensures) at))
+pub returns : goal.returns
+returns c =
+    let b = c.book-book.result.now in
+    let rising = ap (rises 0) c.book-book.ensures ∙ c.args.self.now.rising in
+    let place = by_timestamp c.args.timestamp c.args.encoding c.args.tag b c.place_of.result rising c.place_of.ensures.before c.place_of.ensures.after in
+    rw (← c.book-book.ensures, place) c.stands_at.ensures
