@@ -17,7 +17,7 @@ use settings::setting::Setting;
 use signatures::signatures::Signatures;
 
 impl<S: Setting, P: QuorumSystem, K: Signatures> Cluster<S, P, K> {
-    /// Hands a reply to a client. It is lent, since a copy costs what the call is to be spared.
+    /// Hands a reply to a client. The reply is lent: handed over by value it would be copied once more.
     fn hear(
         &mut self,
         tables: &mut Tables<'_>,

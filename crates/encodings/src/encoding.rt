@@ -6,6 +6,8 @@ ghost use Rattle.encodings.specs.Encodings.{same_bytes, no_bytes};
 pub type Encoding = [u8; 32];
 
 /// Whether two encodings agree in every byte.
+///
+/// One body for those who compare in a call's way: the compiler writes it out where it stands, and calls a `==` that stands in several places.
 pub fn same(a: Encoding, b: Encoding) -> bool
     ensures { result ≡ same_bytes a b }
 {
